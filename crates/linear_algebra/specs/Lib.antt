@@ -1,0 +1,9 @@
+pub mod Residue
+pub mod Prime
+pub mod Vector
+pub mod Span
+pub mod Echelon
+pub mod Dense
+pub mod Sparse
+pub mod Coordinates
+pub mod Elimination

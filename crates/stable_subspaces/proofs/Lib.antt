@@ -1,0 +1,4 @@
+pub mod Powers
+pub mod Fitting
+pub mod Refining
+pub mod Polynomials

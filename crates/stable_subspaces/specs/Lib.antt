@@ -1,0 +1,3 @@
+pub mod Operator
+pub mod Fitting
+pub mod Splitting
