@@ -1,0 +1,10 @@
+-- What a call that reads a whole source has taken.
+--   TakesWithin old new limit past    some bytes were taken, where the source tells them, and they are more than the limit exactly where `past` holds
+use Rattle.std.specs.Prelude.{ℕ, ◌<◌, ◌↔◌, List, length}
+use Rattle.std.specs.declared.option.Option.{Option}
+use Rattle.std.specs.Io.KnownBytes.{Consumes}
+
+pub record TakesWithin (old new : Option (List ℕ)) (limit : ℕ) (past : Type 0) : Type 0 where
+  pub taken : List ℕ
+  pub consumed : Consumes old new taken
+  pub cause : past ↔ (limit < length taken)
