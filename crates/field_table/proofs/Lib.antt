@@ -1,0 +1,5 @@
+pub mod Arithmetic
+pub mod Gathering
+pub mod Lists
+pub mod Quotients
+pub mod TableFacts

@@ -1,0 +1,19 @@
+ghost use Rattle.std.specs.Prelude.{◌≡◌, ◌≢◌, ◌<◌, ℕ};
+ghost use Rattle.field_table.specs.Table.{IsListed};
+ghost use Rattle.field_table.specs.declared.table.TheConstants.{CHARACTERISTIC_LIMIT};
+ghost use Rattle.linear_algebra.specs.Prime.{IsPrime};
+ghost use Rattle.linear_algebra.specs.Residue.{Residue, residue, ◌⊗◌};
+
+/// Each number of the table is a prime below the limit, and 1000003 and 16777213 are primes too.
+pub fn characteristics_are_primes()
+    ensures prime { (p : ℕ) → IsListed p → IsPrime p }
+    ensures limit { (p : ℕ) → IsListed p → p < CHARACTERISTIC_LIMIT }
+    ensures prime_1000003 { IsPrime 1000003 }
+    ensures prime_16777213 { IsPrime 16777213 }
+{}
+
+/// Each residue other than 0 of a listed characteristic has an inverse. No call tests it.
+pub fn nonzero_residues_have_inverses()
+    ensures law { (p : ℕ) → IsListed p → (a : Residue p) → a ≢ residue p 0
+        → (b : Residue p) × (a ⊗ b ≡ residue p 1) }
+{}

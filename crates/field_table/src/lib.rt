@@ -1,0 +1,26 @@
+//! The prime fields of the table: residues, the loops over lists of residues, and combinations of places.
+#![tactic(auto)]
+
+mod combo;
+mod dispatch;
+mod field;
+mod gather;
+mod kernel;
+mod laws;
+mod memory;
+mod modulo;
+mod multiple;
+mod products;
+mod residues;
+mod table;
+#[cfg(test)]
+mod tests;
+
+pub use combo::Combo;
+pub use dispatch::{axpy, axpy_sparse, dot, scale};
+pub use field::{Field, FieldFault};
+pub use kernel::Kernel;
+pub use laws::{characteristics_are_primes, nonzero_residues_have_inverses};
+pub use memory::OutOfMemory;
+pub use residues::Residues;
+pub use table::{CHARACTERISTIC_LIMIT, CHARACTERISTICS};
