@@ -1,0 +1,111 @@
+-- The unit that turns a number into the head of its multiples.
+use Rattle.std.proofs.Common.{◌≡◌, ◌≢◌, ◌+◌, ◌*◌, ◌%◌, ◌<◌, ◌≤◌, ◌++◌, ℕ, suc, List, [], ◌∷◌, Some, length, get_or, refl, sym, ◌∙◌, ap, subst, inl, inr, arith}
+use Rattle.std.specs.Prelude.{slice_get, slice_index}
+use Rattle.std.proofs.Math.Nat.{mod-lt, mod-mod, mod-eq_of_lt}
+use Rattle.std.proofs.lemmas.Nat.{mul-mod_first, mul-add-lt}
+use Rattle.std.proofs.lemmas.Bool.{cases_eq}
+use Rattle.std.proofs.lemmas.List.{length-append}
+use Rattle.std.proofs.lemmas.Option.{none-some, slice_get-get_or}
+use Rattle.p1_normal.specs.declared.point.Point.{Point}
+use Rattle.p1_normal.specs.declared.tables.Turn.{Turn}
+use Rattle.p1_normal.specs.Units.{IsUnit, units}
+use Rattle.p1_normal.specs.Points.{scaled, SamePoint, common_divisor, normal_form, IsBelow, IsNumber}
+use Rattle.p1_normal.specs.Tables.{IsHead, IsTurn, AreTurns, IsNumbering}
+use Rattle.p1_normal.proofs.Units.{IsUnit-one, IsUnit-mod, IsUnit-inverse}
+use Rattle.p1_normal.proofs.UnitLists.{unit_at, unit_below, unit_found}
+use Rattle.p1_normal.proofs.SamePoints.{undone, SamePoint-scaled, common_divisor-same}
+use Rattle.p1_normal.proofs.NormalForms.{IsBelow-scaled, normal_form-same}
+use Rattle.p1_normal.proofs.Heads.{head_of_least}
+use Rattle.p1_normal.proofs.Lists.{get-push_cases}
+
+-- the least among the first k units
+pub record TurnSoFar (N u k : ℕ) (turn : Turn) : Type 0 where
+  pub unit : IsUnit N turn.factor
+  pub small : turn.factor < N
+  pub turned : (turn.factor * u) % N ≡ turn.head
+  pub least : (j : ℕ) → j < k → turn.head ≤ (get_or (units N) j 0 * u) % N
+
+pub turn_none : (N u : ℕ) (turn : Turn) → 0 < N → u < N → turn.factor ≡ 1 % N → turn.head ≡ u → TurnSoFar N u 0 turn
+turn_none N u turn some within e f = record {
+  unit = subst (IsUnit N) (sym e) (IsUnit-mod N 1 (IsUnit-one N));
+  small = let l : 1 % N < N = mod-lt 1 some in omega arith;
+  turned = ap (λ t. (t * u) % N) e ∙ mul-mod_first 1 u N ∙ ap (λ n. n % N) (omega arith) ∙ mod-eq_of_lt within ∙ sym f;
+  least = λ j l. absurd (omega arith);
+}
+
+least_more : (N u k head : ℕ) → ((j : ℕ) → j < k → head ≤ (get_or (units N) j 0 * u) % N) → head ≤ (get_or (units N) k 0 * u) % N → (j : ℕ) → j < k + 1 → head ≤ (get_or (units N) j 0 * u) % N
+least_more N u k head before here j l = elim (cases_eq j k) [
+  | inl same ↦ subst (λ i. head ≤ (get_or (units N) i 0 * u) % N) (sym same) here
+  | inr other ↦ before j (omega arith)
+]
+
+pub turn_kept : (N u k : ℕ) (turn : Turn) → turn.head ≤ (get_or (units N) k 0 * u) % N → TurnSoFar N u k turn → TurnSoFar N u (k + 1) turn
+turn_kept N u k turn le h = record { unit = h.unit; small = h.small; turned = h.turned; least = least_more N u k turn.head h.least le }
+
+pub turn_changed : (N u k : ℕ) (turn new : Turn) → k < length (units N) → new.factor ≡ get_or (units N) k 0 → new.head ≡ (get_or (units N) k 0 * u) % N → new.head ≤ turn.head → TurnSoFar N u k turn → TurnSoFar N u (k + 1) new
+turn_changed N u k turn new within e f le h = record {
+  unit = subst (IsUnit N) (sym e) (unit_at N k within);
+  small = let l = unit_below N k within in omega arith;
+  turned = ap (λ t. (t * u) % N) e ∙ sym f;
+  least = least_more N u k new.head (λ j l. let m = h.least j l in omega arith) (omega arith);
+}
+
+pub turn_all : (N u : ℕ) (turn : Turn) → 0 < N → TurnSoFar N u (length (units N)) turn → IsTurn N u turn
+turn_all N u turn some h = record {
+  unit = h.unit;
+  small = h.small;
+  turned = h.turned;
+  head = subst (IsHead N) h.turned (head_of_least N u turn.factor h.unit (λ s g.
+      let (j, l, e) = unit_found N s some g in
+      let le = h.least j l in
+      let is : (get_or (units N) j 0 * u) % N ≡ (s * u) % N = ap (λ t. (t * u) % N) e ∙ mul-mod_first s u N in
+      let own = h.turned in
+      omega arith));
+}
+
+-- a head is turned into itself
+pub turn_own : (N u : ℕ) (turn : Turn) → u < N → IsTurn N u turn → IsHead N u → turn.head ≡ u
+turn_own N u turn within h head =
+    let back : (h.unit.inverse * turn.head) % N ≡ u = undone N turn.factor h.unit.inverse u turn.head h.unit.gives_one (h.turned ∙ whole) ∙ mod-eq_of_lt within in
+    omega (arith, head.least turn.factor h.unit, h.head.least h.unit.inverse (IsUnit-inverse N turn.factor h.unit), h.turned)
+  where
+    whole : turn.head ≡ turn.head % N
+    whole = sym h.turned ∙ sym (mod-mod (turn.factor * u) N) ∙ ap (λ n. n % N) h.turned
+
+-- the turns of the numbers below k
+pub record AreTurnsBelow (N k : ℕ) (turns : List Turn) : Type 0 where
+  pub size : length turns ≡ k
+  pub each : (u : ℕ) (turn : Turn) → slice_get turns u ≡ Some turn → IsTurn N u turn
+
+pub turns_none : (N : ℕ) → AreTurnsBelow N 0 []
+turns_none N = record { size = refl; each = λ u turn e. absurd (none-some turn e) }
+
+pub turns_more : (N k : ℕ) (turns : List Turn) (turn : Turn) → AreTurnsBelow N k turns → IsTurn N k turn → AreTurnsBelow N (k + 1) (turns ++ turn ∷ [])
+turns_more N k turns turn h is = record {
+  size = omega (arith, length-append turns (turn ∷ []), h.size);
+  each = λ u t e. elim (get-push_cases turns turn t u e) [
+    | inl old ↦ h.each u t old
+    | inr here ↦ subst (λ x. IsTurn N u x) here.1 (subst (λ j. IsTurn N j turn) (sym (here.0 ∙ h.size)) is)
+  ];
+}
+
+-- the symbol that a turned pair names is that of the pair
+pub turned_number : {N : ℕ} {numbers : List ℕ} {turn : Turn} (p : Point) (k : ℕ) → 0 < N → IsBelow N p → IsTurn N p.u turn → IsNumbering N numbers → slice_index numbers (turn.head * N + (turn.factor * p.v) % N) ≡ suc k →
+    (common_divisor N p ≡ 1) × IsNumber N k (normal_form N p)
+turned_number {N} {numbers} {turn} p k some below h table e =
+    let q : Point = scaled N turn.factor p in
+    let same : SamePoint N p q = SamePoint-scaled N turn.factor p h.unit in
+    let (one, stands) = table.some q k (IsBelow-scaled N turn.factor p some) (subst (IsHead N) (sym h.turned) h.head) (ap (λ u. slice_index numbers (u * N + (turn.factor * p.v) % N)) h.turned ∙ e) in
+    (common_divisor-same same ∙ one, stands ∙ ap Some (sym (normal_form-same N p q some same)))
+
+pub turned_none : {N : ℕ} {numbers : List ℕ} {turn : Turn} (p : Point) → 0 < N → IsBelow N p → IsTurn N p.u turn → IsNumbering N numbers → slice_index numbers (turn.head * N + (turn.factor * p.v) % N) ≡ 0 → common_divisor N p ≢ 1
+turned_none {N} {numbers} {turn} p some below h table e one =
+    let q : Point = scaled N turn.factor p in
+    let same : SamePoint N p q = SamePoint-scaled N turn.factor p h.unit in
+    table.none q (IsBelow-scaled N turn.factor p some) (subst (IsHead N) (sym h.turned) h.head) (ap (λ u. slice_index numbers (u * N + (turn.factor * p.v) % N)) h.turned ∙ e) (sym (common_divisor-same same) ∙ one)
+
+pub turn_at : {N : ℕ} {turns : List Turn} (u : ℕ) (d : Turn) → AreTurns N turns → u < N → IsTurn N u (get_or turns u d)
+turn_at {N} {turns} u d h within = h.each u (get_or turns u d) (slice_get-get_or turns u d (let e = h.size in omega arith))
+
+pub turned_place : {N : ℕ} {turn : Turn} (u v : ℕ) → 0 < N → IsTurn N u turn → turn.head * N + (turn.factor * v) % N < N * N
+turned_place {N} {turn} u v some h = mul-add-lt turn.head N ((turn.factor * v) % N) N (subst (λ n. n < N) h.turned (mod-lt (turn.factor * u) some)) (mod-lt (turn.factor * v) some)

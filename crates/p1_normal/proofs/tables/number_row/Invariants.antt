@@ -1,0 +1,6 @@
+use Rattle.std.proofs.Common.{◌+◌, ◌*◌}
+use Rattle.p1_normal.specs.Sieving.{Sieved}
+use Rattle.p1_normal.proofs.tables.number_row.Given as goal
+
+abbrev pub invariant-loop-v : goal.invariant-loop-v
+invariant-loop-v l = Sieved l.n (l.u * l.n + l.v) l.points.items l.numbers

@@ -1,0 +1,198 @@
+ghost use Rattle.std.specs.Prelude.{◌≡◌, ◌≢◌, ◌<◌, ◌≤◌, ℕ, ◌*◌, ◌+◌, IfOk, IfErr, IsOk, OnOk, ◌↔◌, length};
+ghost use Rattle.p1_normal.specs.Units.{units, fixing};
+ghost use Rattle.p1_normal.specs.Points.{symbols, common_divisor, normal_form, number, IsBelow, IsNumber};
+ghost use Rattle.p1_normal.specs.Tables.{
+  IsHead,
+  IsTurn,
+  AreTurns,
+  IsNumbering,
+  Marks,
+  IsFound,
+};
+ghost use Rattle.p1_normal.specs.Sieving.{Sieved};
+
+use crate::divisor::gcd;
+use crate::level::MAX_LEVEL;
+use crate::point::{NotASymbol, Point};
+use std::alloc::{AllocError, Global};
+
+// The least multiple of a number by a unit, and that unit.
+#[derive(Clone, Copy, Debug)]
+pub struct Turn {
+    pub head: u32,
+    pub factor: u32,
+}
+
+// The units below n.
+pub fn units_below(alloc: Global, n: u32) -> Result<Vec<u32>, AllocError>
+    requires { 0 < n }
+    ensures { IfOk result (λ list. list.items ≡ units n) }
+{
+    let mut list = Vec::new(alloc);
+    for s in 0..n {
+        if gcd(s, n) == 1 {
+            list.push(s)?;
+        }
+    }
+    Ok(list)
+}
+
+// The unit that turns u into the least of its multiples by units.
+fn turn_of(n: u32, multipliers: &[u32], u: u32) -> Turn
+    requires level { (0 < n) × (n ≤ MAX_LEVEL) }
+    requires below { u < n }
+    requires units { multipliers.now ≡ units n }
+    ensures { IsTurn n u result }
+{
+    let mut turn = Turn {
+        head: u,
+        factor: 1 % n,
+    };
+    for s in multipliers {
+        let head = *s * u % n;
+        if head < turn.head {
+            turn = Turn { head, factor: *s };
+        }
+    }
+    turn
+}
+
+// The turn of each number below n.
+pub fn turns_below(alloc: Global, n: u32, multipliers: &[u32]) -> Result<Vec<Turn>, AllocError>
+    requires level { (0 < n) × (n ≤ MAX_LEVEL) }
+    requires units { multipliers.now ≡ units n }
+    ensures { IfOk result (λ turns. AreTurns n turns.items) }
+{
+    let mut turns = Vec::new(alloc);
+    for u in 0..n {
+        turns.push(turn_of(n, multipliers, u))?;
+    }
+    Ok(turns)
+}
+
+// The units that keep u.
+fn units_fixing(alloc: Global, n: u32, multipliers: &[u32], u: u32) -> Result<Vec<u32>, AllocError>
+    requires level { (0 < n) × (n ≤ MAX_LEVEL) }
+    requires below { u < n }
+    requires units { multipliers.now ≡ units n }
+    ensures { IfOk result (λ list. list.items ≡ fixing n u) }
+{
+    let mut list = Vec::new(alloc);
+    for s in multipliers {
+        if *s * u % n == u {
+            list.push(*s)?;
+        }
+    }
+    Ok(list)
+}
+
+// Writes the number at each name of p in its row.
+fn mark(numbers: &mut [u32], n: u32, kept: &[u32], p: Point, number: u32)
+    requires level { (0 < n) × (n ≤ MAX_LEVEL) }
+    requires size { length numbers.old ≡ n * n }
+    requires kept { kept.now ≡ fixing n p.u }
+    requires below { IsBelow n p }
+    requires head { IsHead n p.u }
+    ensures { Marks n p number numbers.old numbers.new }
+{
+    for s in kept {
+        let u = *s * p.u % n;
+        let v = *s * p.v % n;
+        numbers[(u * n + v) as usize] = number;
+    }
+}
+
+// Lists and numbers the symbols that begin with u.
+fn number_row(
+    n: u32,
+    kept: &[u32],
+    u: u32,
+    points: &mut Vec<Point>,
+    numbers: &mut [u32],
+) -> Result<(), AllocError>
+    requires level { (0 < n) × (n ≤ MAX_LEVEL) }
+    requires below { u < n }
+    requires head { IsHead n u }
+    requires kept { kept.now ≡ fixing n u }
+    requires before { Sieved n (u * n) points.old.items numbers.old }
+    ensures { OnOk result (Sieved n (u * n + n) points.new.items numbers.new) }
+{
+    for v in 0..n {
+        let p = Point { u, v };
+        if numbers[(u * n + v) as usize] == 0 && gcd(gcd(u, v), n) == 1 {
+            points.push(p)?;
+            mark(numbers, n, kept, p, points.len() as u32);
+        }
+    }
+    Ok(())
+}
+
+// The symbols in order, and the table of their numbers.
+pub fn numbered(
+    alloc: Global,
+    n: u32,
+    multipliers: &[u32],
+    turns: &[Turn],
+) -> Result<(Vec<Point>, Vec<u32>), AllocError>
+    requires level { (0 < n) × (n ≤ MAX_LEVEL) }
+    requires units { multipliers.now ≡ units n }
+    requires turns { AreTurns n turns.now }
+    ensures { IfOk result (λ found. (found.0.items ≡ symbols n) × IsNumbering n found.1.items) }
+{
+    let mut points = Vec::new(alloc);
+    let mut numbers = vec![in alloc; 0; (n * n) as usize]?;
+    for u in 0..n {
+        if turns[u as usize].head == u {
+            let kept = units_fixing(alloc, n, multipliers, u)?;
+            number_row(n, &kept, u, &mut points, &mut numbers)?;
+        }
+    }
+    Ok((points, numbers))
+}
+
+// What the tables say of p: 0 where it names no point, and otherwise the number after its symbol's.
+fn look_up(n: u32, turns: &[Turn], numbers: &[u32], p: Point) -> u32
+    requires level { (0 < n) × (n ≤ MAX_LEVEL) }
+    requires turns { AreTurns n turns.now }
+    requires numbering { IsNumbering n numbers.now }
+    requires below { IsBelow n p }
+    ensures none { result ≡ 0 → common_divisor n p ≢ 1 }
+    ensures some { (k : ℕ) → result ≡ k + 1 → IsFound n p k }
+{
+    let turn = turns[p.u as usize];
+    numbers[(turn.head * n + turn.factor * p.v % n) as usize]
+}
+
+// The number of the symbol that names the point of p.
+pub fn find(n: u32, turns: &[Turn], numbers: &[u32], p: Point) -> Result<u32, NotASymbol>
+    requires level { (0 < n) × (n ≤ MAX_LEVEL) }
+    requires turns { AreTurns n turns.now }
+    requires numbering { IsNumbering n numbers.now }
+    requires below { IsBelow n p }
+    ensures number { IfOk result (λ k. k ≡ number n (normal_form n p)) }
+    ensures below { IfOk result (λ k. k < length (symbols n)) }
+    ensures some { IsOk result ↔ (common_divisor n p ≡ 1) }
+    ensures none { IfErr result (λ e. e.g ≡ common_divisor n p) }
+{
+    let found = look_up(n, turns, numbers, p);
+    if found == 0 {
+        Err(NotASymbol {
+            g: gcd(gcd(p.u, p.v), n),
+        })
+    } else {
+        Ok(found - 1)
+    }
+}
+
+// The same where p is known to name a point.
+pub fn number_of(n: u32, turns: &[Turn], numbers: &[u32], p: Point) -> u32
+    requires level { (0 < n) × (n ≤ MAX_LEVEL) }
+    requires turns { AreTurns n turns.now }
+    requires numbering { IsNumbering n numbers.now }
+    requires below { IsBelow n p }
+    requires names { common_divisor n p ≡ 1 }
+    ensures number { result ≡ number n (normal_form n p) }
+    ensures below { result < length (symbols n) }
+{
+    look_up(n, turns, numbers, p) - 1
+}
