@@ -1,0 +1,5 @@
+pub mod Occurrences
+pub mod RelationVectors
+pub mod RelationLaws
+pub mod RelationLists
+pub mod TraceSums
