@@ -1,0 +1,7 @@
+pub mod SessionLemmas
+pub mod ReadingLemmas
+pub mod ScriptLemmas
+pub mod TermLemmas
+pub mod WalkLemmas
+pub mod TableLemmas
+pub mod FormLemmas

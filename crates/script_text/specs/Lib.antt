@@ -1,0 +1,10 @@
+pub mod Numbered
+pub mod Valid
+pub mod Scripts
+pub mod Reading
+pub mod Rows
+pub mod Tokens
+pub mod Grammar
+pub mod Limits
+pub mod Commands
+pub mod Walk

@@ -1,0 +1,14 @@
+/// The most sessions of a script.
+pub const MAX_SESSIONS: usize = 8;
+
+/// The most commands of a script, all its sessions together.
+pub const MAX_COMMANDS: u32 = 2000;
+
+/// The most terms of a command.
+pub const MAX_TERMS: usize = 64;
+
+/// The greatest magnitude of a number in a command.
+pub const MAX_MAGNITUDE: u32 = 4_000_000_000;
+
+/// Each magnitude above `MAX_MAGNITUDE` is read as this one: all are refused alike.
+pub(crate) const PAST_MAGNITUDE: u32 = 4_000_000_001;
