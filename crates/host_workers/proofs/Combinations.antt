@@ -1,0 +1,136 @@
+-- Terms as combinations: the first term that names no point, the places of the symbols, and answers about the combination.
+use Rattle.std.proofs.Common.{◌≡◌, ◌≢◌, ◌+◌, ◌<◌, ◌≤◌, ℕ, ℤ, pos, true, false, not, cond, List, [], ◌∷◌, ◌++◌, length, get_or, take, All, Some, None, nat_lt, refl, sym, ◌∙◌, ap, subst, inl, inr, below_more, eq-eqb, arith}
+use Rattle.std.specs.List.{position_or_len}
+use Rattle.std.proofs.lemmas.Bool.{cases_lt, le-ltb, lt-ltb, ne_eqb}
+use Rattle.std.proofs.lemmas.List.{map_more}
+use Rattle.std.proofs.lemmas.List.Sums.{position_or_len_is}
+use Rattle.std.proofs.lemmas.List.Elements.{All-get_or, All-from_get_or, All-map}
+use Rattle.linear_algebra.specs.Vector.{Vector, EndsBefore}
+use Rattle.linear_algebra.specs.Sparse.{sparse, IsCombo}
+use Rattle.linear_algebra.specs.Coordinates.{IsTrace}
+use Rattle.linear_algebra.proofs.SparseLaws.{sparse_at, EndsBefore-sparse, some_residue}
+use Rattle.field_table.specs.Integers.{residue_of}
+use Rattle.field_table.specs.Residues.{HasResidues}
+use Rattle.field_table.specs.Terms.{residue_terms, HasPlacesBelow}
+use Rattle.p1_normal.specs.Points.{common_divisor, reduced, number}
+use Rattle.quotient_coords.specs.Quotient.{AreCoordinates, HasCoordinates, HasTrace}
+use Rattle.script_text.specs.declared.term.Term.{Term}
+use Rattle.script_text.specs.declared.command.Command.TheVariants as commands
+use Rattle.reply_text.specs.declared.reply.Reply.{Reply}
+use Rattle.reply_text.specs.declared.reply.Reply.TheVariants as replies
+use Rattle.reply_text.specs.declared.refusal.Refusal.TheVariants as refusals
+use Rattle.host_workers.specs.Replies.{names_point, first_unnamed, unnamed, symbol_of, symbol_terms, combination, IsAnswer, UnlessRefused}
+
+-- what is read past the end of a list of terms
+abbrev pub no_term : Term
+no_term = record { coefficient = pos 0; u = pos 0; v = pos 0 }
+
+-- each of the first i terms names a point
+pub record NameUpTo (N : ℕ) (terms : List Term) (i : ℕ) : Type 0 where
+  pub each : (k : ℕ) → k < i → names_point N (get_or terms k no_term) ≡ true
+
+-- one more term names a point
+pub names_more : (N : ℕ) (terms : List Term) (i : ℕ) → NameUpTo N terms i → common_divisor N (reduced N (get_or terms i no_term).u (get_or terms i no_term).v) ≡ 1 → NameUpTo N terms (i + 1)
+names_more N terms i h e = record {
+  each = below_more (λ k. names_point N (get_or terms k no_term) ≡ true) i h.each (eq-eqb (common_divisor N (reduced N (get_or terms i no_term).u (get_or terms i no_term).v)) 1 e);
+}
+
+-- one more term with its symbol's number
+pub symbol_terms_more : (N : ℕ) (terms : List Term) (i n : ℕ) (items : List (ℕ × ℤ)) → i < length terms → items ≡ symbol_terms N (take i terms) → n ≡ number N (symbol_of N (get_or terms i no_term))
+    → items ++ (n, (get_or terms i no_term).coefficient) ∷ [] ≡ symbol_terms N (take (i + 1) terms)
+symbol_terms_more N terms i n items l e same =
+    ap (λ k. items ++ (k, (get_or terms i no_term).coefficient) ∷ []) same
+    ∙ ap (λ ts. ts ++ (number N (symbol_of N (get_or terms i no_term)), (get_or terms i no_term).coefficient) ∷ []) e
+    ∙ sym (map_more (λ t. (number N (symbol_of N t), t.coefficient)) terms i no_term l)
+
+-- where the first i terms name points and the next does not, it is the first that does not
+first_unnamed_place : (N : ℕ) (terms : List Term) (i : ℕ) → NameUpTo N terms i → i ≤ length terms → (i < length terms → names_point N (get_or terms i no_term) ≡ false)
+    → position_or_len (λ t. not (names_point N t)) terms ≡ i
+first_unnamed_place N terms i h l e = position_or_len_is (λ t. not (names_point N t)) terms i no_term l (λ k u. ap not (h.each k u)) (λ u. ap not (e u))
+
+-- where all of them name points, none is the first that does not
+pub first_unnamed-none : (N : ℕ) (terms : List Term) → NameUpTo N terms (length terms) → first_unnamed N terms ≡ None
+first_unnamed-none N terms h =
+    ap (λ j. cond (nat_lt j (length terms)) (Some j) None) (first_unnamed_place N terms (length terms) h (omega arith) (λ u. absurd (omega arith)))
+    ∙ ap (λ t. cond t (Some (length terms)) None) (le-ltb (length terms) (length terms) (omega arith))
+
+-- the first term that names no point
+pub first_unnamed-some : (N : ℕ) (terms : List Term) (i : ℕ) → NameUpTo N terms i → i < length terms → names_point N (get_or terms i no_term) ≡ false → first_unnamed N terms ≡ Some i
+first_unnamed-some N terms i h l e =
+    ap (λ j. cond (nat_lt j (length terms)) (Some j) None) (first_unnamed_place N terms i h (omega arith) (λ u. e))
+    ∙ ap (λ t. cond t (Some i) None) (lt-ltb i (length terms) l)
+
+-- the refusal names that term by its number from 1
+pub unnamed_is : (N : ℕ) (terms : List Term) (i j : ℕ) → NameUpTo N terms i → i < length terms → common_divisor N (reduced N (get_or terms i no_term).u (get_or terms i no_term).v) ≢ 1 → j ≡ i + 1
+    → unnamed (first_unnamed N terms) ≡ Some (refusals.NotSymbol j)
+unnamed_is N terms i j h l e same =
+    ap unnamed (first_unnamed-some N terms i h l (ne_eqb (common_divisor N (reduced N (get_or terms i no_term).u (get_or terms i no_term).v)) 1 e))
+    ∙ ap (λ k. Some (refusals.NotSymbol k)) (sym same)
+
+-- a rising list of residues without zeros whose vector has length d has its places below d
+pub HasPlacesBelow-from_vector : (p d : ℕ) (ts : List (ℕ × ℕ)) → IsCombo ts → HasResidues p ts → EndsBefore d (sparse p ts) → HasPlacesBelow d ts
+HasPlacesBelow-from_vector p d ts combo residues ends = All-from_get_or (λ t. t.0 < d) ts (0, 0) (λ i l. elim (cases_lt (get_or ts i (0, 0)).0 d) [
+  | inl below ↦ below
+  | inr above ↦ absurd (some_residue p (get_or ts i (0, 0)).1 (All-get_or (λ t. 0 < t.1) ts i (0, 0) l combo.nonzero) (All-get_or (λ t. t.1 < p) ts i (0, 0) l residues)
+      (sym (sparse_at p ts combo i l) ∙ ends (get_or ts i (0, 0)).0 above))
+])
+
+-- the residues of terms stand at the places of the terms
+pub places_of_residues : (p d : ℕ) (ts : List (ℕ × ℤ)) → All (λ t. t.0 < d) ts → HasPlacesBelow d (residue_terms p ts)
+places_of_residues p d ts below = All-map (λ t. t.0 < d) (λ t. (t.0, residue_of p t.1)) ts below
+
+-- the combination of terms with places below d has its places below d
+pub places_of_combination : (p d : ℕ) (ts : List (ℕ × ℤ)) (c : List (ℕ × ℕ)) → All (λ t. t.0 < d) ts → sparse p c ≡ sparse p (residue_terms p ts) → IsCombo c → HasResidues p c → HasPlacesBelow d c
+places_of_combination p d ts c below same combo residues =
+    HasPlacesBelow-from_vector p d c combo residues (subst (EndsBefore d) (sym same) (EndsBefore-sparse p d (residue_terms p ts) (places_of_residues p d ts below)))
+
+-- a vector's equation at equal levels, characteristics and terms
+pub same_vector : {N M p q : ℕ} {terms us : List Term} (c : List (ℕ × ℕ)) → M ≡ N → q ≡ p → us ≡ terms → sparse q c ≡ sparse q (combination M q us) → sparse p c ≡ sparse p (combination N p terms)
+same_vector {N} {M} {p} {q} {terms} {us} c level field list e =
+    subst (λ k. sparse k c ≡ sparse k (combination N k terms)) field
+    (subst (λ ts. sparse q c ≡ sparse q (combination N q ts)) list
+    (subst (λ L. sparse q c ≡ sparse q (combination L q us)) level e))
+
+-- no term is unnamed at an equal level and equal terms
+pub same_named : {N M : ℕ} {terms us : List Term} → M ≡ N → us ≡ terms → first_unnamed M us ≡ None → first_unnamed N terms ≡ None
+same_named {N} {M} {terms} {us} level list e = subst (λ ts. first_unnamed N ts ≡ None) list (subst (λ L. first_unnamed L us ≡ None) level e)
+
+-- rows add up to what an equal vector asks
+same_trace : {p : ℕ} {rows : List (Vector p)} {x y lift trace : Vector p} → x ≡ y → IsTrace rows x lift trace → IsTrace rows y lift trace
+same_trace {rows = rows} {lift = lift} {trace = trace} e h = subst (λ z. IsTrace rows z lift trace) e h
+
+-- a trace is that of the vector
+pub trace_of_same : {N p : ℕ} {c d : List (ℕ × ℕ)} (trace : List (ℕ × ℕ)) → sparse p c ≡ sparse p d → HasTrace N p c trace → HasTrace N p d trace
+trace_of_same {N} {p} {c} {d} trace e h = record {
+  rising = h.rising;
+  places = h.places;
+  residues = h.residues;
+  values = h.values;
+  coordinates = subst (λ x. AreCoordinates N x h.values) e h.coordinates;
+  adds_up = same_trace e h.adds_up;
+}
+
+-- what is said where no term is unnamed
+pub unrefused : (N : ℕ) (terms : List Term) (said : Type 0) (reply : Reply) → first_unnamed N terms ≡ None → said → UnlessRefused (unnamed (first_unnamed N terms)) said reply
+unrefused N terms said reply e h = subst (λ o. UnlessRefused (unnamed o) said reply) (sym e) h
+
+-- coordinates of the vector of the terms are an answer
+pub reduce_answer : (N p M q : ℕ) (terms us : List Term) (c : List (ℕ × ℕ)) (values : List ℕ) → M ≡ N → q ≡ p → us ≡ terms → sparse q c ≡ sparse q (combination M q us) → first_unnamed M us ≡ None
+    → HasCoordinates N p c values
+    → UnlessRefused (unnamed (first_unnamed N terms)) (IsAnswer N p (commands.Reduce terms) (replies.Coords values)) (replies.Coords values)
+reduce_answer N p M q terms us c values level field list vector named has =
+    unrefused N terms (IsAnswer N p (commands.Reduce terms) (replies.Coords values)) (replies.Coords values) (same_named level list named)
+    (values, refl, subst (λ x. AreCoordinates N x values) (same_vector c level field list vector) has)
+
+-- with their trace they are a certified answer
+pub certify_answer : (N p M q : ℕ) (terms us : List Term) (c trace told : List (ℕ × ℕ)) (values : List ℕ) → M ≡ N → q ≡ p → us ≡ terms → sparse q c ≡ sparse q (combination M q us) → first_unnamed M us ≡ None
+    → HasCoordinates N p c values → HasTrace N p c trace → told ≡ trace
+    → UnlessRefused (unnamed (first_unnamed N terms)) (IsAnswer N p (commands.Certify terms) (replies.Certified values told)) (replies.Certified values told)
+certify_answer N p M q terms us c trace told values level field list vector named has traced same =
+    unrefused N terms (IsAnswer N p (commands.Certify terms) (replies.Certified values told)) (replies.Certified values told) (same_named level list named) (
+      values,
+      told,
+      refl,
+      subst (λ x. AreCoordinates N x values) (same_vector c level field list vector) has,
+      trace_of_same told (same_vector c level field list vector) (subst (HasTrace N p c) (sym same) traced),
+    )

@@ -1,0 +1,4 @@
+pub mod Combinations
+pub mod StatusLines
+pub mod SessionLists
+pub mod UniqueTranscripts

@@ -1,0 +1,4 @@
+pub mod Statuses
+pub mod Replies
+pub mod Sessions
+pub mod Runs

@@ -1,0 +1,97 @@
+use super::{NoGate, Status, run, transcripts_are_unique};
+use script_text::ScriptCause;
+use std::alloc::Global;
+use std::test::Fail;
+use sym_io::{MemSink, MemSource};
+
+const SCRIPT: &[u8] = b"space 11 101\nsession\nnormal 22 7\nnormal 3 1\nnormal 0 0\n";
+
+const TRANSCRIPT: &[u8] =
+    b"transcript 1\nspace 11 101 symbols 12\nsession 1\n1 @0 ok point (0:1)\n2 @0 ok point (1:4)\n3 @0 err not_symbol 1\nhistory 0\ncolumns 0\nend\n";
+
+const COORDS: &[u8] =
+    b"space 11 101\r\n\n# note\nsession\nreduce 1:1:4\ncertify 1:1:4\ncertify 1:0:1\nreduce 2:1:5 -1:0:1 1:1:7\nreduce\nsession\nbasis\nshow\nreduce 1:1:2 1:11:0\nimage 2 1:0";
+
+const ANSWERS: &[u8] =
+    b"transcript 1\nspace 11 101 symbols 12\nsession 1\n1 @0 ok coords 0 100 1\n2 @0 ok certified 0 100 1 by 4:100 15:1\n3 @0 ok certified 1 0 0 by\n4 @0 ok coords 100 99 100\n5 @0 ok coords 0 0 0\nsession 2\n1 @0 ok basis 3 (0:1) (1:2) (1:3)\n2 @0 err unbuilt\n3 @0 err not_symbol 2\n4 @0 err grammar 3\nhistory 0\ncolumns 0\nend\n";
+
+// A script with the calls of the input and of the output that fail, the room of the output, the status and what is written.
+#[derive(Clone, Copy)]
+struct Case {
+    script: &'static [u8],
+    read_fails: &'static [u32],
+    write_fails: &'static [u32],
+    room: u32,
+    status: Status,
+    written: &'static [u8],
+}
+
+fn plain(script: &'static [u8], status: Status, written: &'static [u8]) -> Case {
+    Case {
+        script,
+        read_fails: &[],
+        write_fails: &[],
+        room: 1000,
+        status,
+        written,
+    }
+}
+
+fn bad(script: &'static [u8], line: u32, cause: ScriptCause) -> Case {
+    plain(script, Status::BadScript { line, cause }, b"")
+}
+
+fn cases() -> [Case; 9] {
+    [
+        plain(SCRIPT, Status::Done, TRANSCRIPT),
+        plain(COORDS, Status::Done, ANSWERS),
+        Case {
+            read_fails: &[1],
+            ..plain(SCRIPT, Status::ReadFault, b"")
+        },
+        Case {
+            write_fails: &[0],
+            ..plain(SCRIPT, Status::WriteFault, b"")
+        },
+        Case {
+            room: 10,
+            ..plain(SCRIPT, Status::WriteFault, b"transcript")
+        },
+        bad(b"space 11 6\n", 1, ScriptCause::Characteristic),
+        bad(b"space 501 5\n", 1, ScriptCause::Level),
+        bad(b"# x\n", 2, ScriptCause::Header),
+        bad(b"space 11 101\nnormal 3 1\n", 2, ScriptCause::NoSession),
+    ]
+}
+
+#[test]
+fn each_script_has_its_status_and_text(rt: HostRuntime) -> Result<(), Fail> {
+    transcripts_are_unique();
+    let alloc = rt.alloc();
+    let mut words = Vec::new(alloc);
+    words.push(String::from_str(alloc, "solo")?)?;
+    for case in cases() {
+        let bytes = case.script.to_vec(alloc)?;
+        let mut input = MemSource::new(bytes, 8, case.read_fails.to_vec(alloc)?);
+        let mut output = MemSink::new(alloc, case.room, 8, case.write_fails.to_vec(alloc)?)?;
+        let status = run(&rt, alloc, &words, &mut input, &mut output, &NoGate);
+        assert_eq!(rt; status, case.status);
+        assert!(rt; output.bytes() == case.written);
+    }
+    Ok(())
+}
+
+#[test]
+fn other_words_read_nothing(rt: HostRuntime) -> Result<(), Fail> {
+    let alloc = rt.alloc();
+    for word in ["", "serve", "gen", "-1"] {
+        let mut words = Vec::new(alloc);
+        words.push(String::from_str(alloc, word)?)?;
+        let mut input = MemSource::new(SCRIPT.to_vec(alloc)?, 8, [0].to_vec(alloc)?);
+        let mut output = MemSink::new(alloc, 1000, 8, Vec::new(alloc))?;
+        let status = run(&rt, alloc, &words, &mut input, &mut output, &NoGate);
+        assert_eq!(rt; status, Status::Usage);
+        assert!(rt; output.bytes().is_empty());
+    }
+    Ok(())
+}
