@@ -17,7 +17,7 @@ use Rattle.linear_algebra.specs.Sparse.{sparse, single, IsCombo}
 use Rattle.linear_algebra.proofs.SparseLaws.{sparse-append, sparse-one, sparse_more, sparse_nil, sparse-cons, sparse_from_dense, single-add, single-zero}
 use Rattle.linear_algebra.proofs.Vectors.{plus_assoc, plus-zeros}
 use Rattle.field_table.specs.Residues.{AreResidues, HasResidues}
-use Rattle.field_table.specs.Terms.{place_at}
+use Rattle.field_table.specs.Terms.{place_at, HasPlacesBelow}
 
 -- one more term of the same place
 pub run_step : (p : ℕ) (ts : List (ℕ × ℕ)) (before : Vector p) (end place a s : ℕ) → end < length ts → place_at ts end ≡ place
@@ -195,6 +195,10 @@ sparse-listing p xs n ts whole g = sparse_from_dense p ts xs g.combo (λ j l. ap
     other : (k : ℕ) → (k < n) ⊎ (n ≤ k) → ((j : ℕ) → j < length ts → (get_or ts j (0, 0)).0 ≢ k) → get_or xs k 0 ≡ 0
     other k (inl here) away = g.others k here away
     other k (inr past) away = get_or_past xs k 0 (omega arith)
+
+-- its places are those of the list
+pub HasPlacesBelow-listing : (xs : List ℕ) (n : ℕ) (ts : List (ℕ × ℕ)) → n ≤ length xs → IsListing xs n ts → HasPlacesBelow (length xs) ts
+HasPlacesBelow-listing xs n ts within g = All-from_get_or (λ t. t.0 < length xs) ts (0, 0) (λ j l. omega (arith, g.before j l))
 
 -- its numbers are residues where those of the list are
 pub HasResidues-listing : (p : ℕ) (xs : List ℕ) (n : ℕ) (ts : List (ℕ × ℕ)) → n ≤ length xs → IsListing xs n ts → AreResidues p xs → HasResidues p ts

@@ -1,6 +1,6 @@
 ghost use Rattle.std.specs.Prelude.{◌≡◌, ◌≤◌, ◌^◌, ℕ, IfOk, length};
 ghost use Rattle.field_table.specs.Residues.{AreResidues, HasResidues};
-ghost use Rattle.field_table.specs.Terms.{residue_terms};
+ghost use Rattle.field_table.specs.Terms.{HasPlacesBelow, residue_terms};
 ghost use Rattle.linear_algebra.specs.Dense.{dense};
 ghost use Rattle.linear_algebra.specs.Sparse.{IsCombo, sparse};
 
@@ -50,6 +50,7 @@ impl Combo {
         requires { length residues.now ≤ 2 ^ 32 }
         ensures vector { IfOk result (λ c. (p : ℕ) → sparse p c ≡ dense p residues.now) }
         ensures residues { IfOk result (λ c. (p : ℕ) → AreResidues p residues.now → HasResidues p c) }
+        ensures places { IfOk result (λ c. HasPlacesBelow (length residues.now) c) }
     {
         Ok(Combo::of(nonzero_terms(alloc, residues)?))
     }

@@ -1,7 +1,7 @@
 ghost use Rattle.std.specs.List.Sorted.{IsNonDecreasingBy};
 ghost use Rattle.std.specs.Prelude.{◌≡◌, ◌≢◌, ◌<◌, ◌≤◌, ◌+◌, ◌^◌, ◌++◌, [], ◌∷◌, ℕ, IfOk, OnOk, length, take, slice_index_or};
 ghost use Rattle.field_table.specs.Residues.{AreResidues, HasResidues};
-ghost use Rattle.field_table.specs.Terms.{place_at, residue_terms};
+ghost use Rattle.field_table.specs.Terms.{HasPlacesBelow, place_at, residue_terms};
 ghost use Rattle.linear_algebra.specs.Dense.{dense};
 ghost use Rattle.linear_algebra.specs.Sparse.{IsCombo, single, sparse};
 ghost use Rattle.linear_algebra.specs.Vector.{◌⊞◌};
@@ -100,6 +100,7 @@ pub fn nonzero_terms(alloc: Global, numbers: &[u32]) -> Result<Vec<(u32, u32)>, 
     ensures vector { IfOk result (λ v. (p : ℕ) → sparse p v.items ≡ dense p numbers.now) }
     ensures combo { IfOk result (λ v. IsCombo v.items) }
     ensures residues { IfOk result (λ v. (p : ℕ) → AreResidues p numbers.now → HasResidues p v.items) }
+    ensures places { IfOk result (λ v. HasPlacesBelow (length numbers.now) v.items) }
 {
     let count = numbers.iter().filter(|number| **number != 0).count();
     let mut terms = Vec::with_capacity(alloc, count)?;

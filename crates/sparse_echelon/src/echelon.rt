@@ -6,7 +6,7 @@ ghost use Rattle.linear_algebra.specs.Echelon.{IsPivot};
 ghost use Rattle.sparse_echelon.specs.System.{IsRank, IsTraceOf, system, vector, vectors};
 
 use crate::elimination::stored_of;
-use crate::reduction::{add_rows_of, combination_of, put_less};
+use crate::reduction::{add_rows_of, put_less};
 use crate::stored::Stored;
 use field_table::{Combo, Field, OutOfMemory};
 use std::alloc::{AllocError, Global};
@@ -116,7 +116,7 @@ impl Echelon {
             x.terms(),
             &mut left,
         );
-        combination_of(alloc, &left)
+        Combo::from_dense(alloc, &left)
     }
 
     /// The one list of coefficients over kept rows, each at the number of its row, with which the rows add up to x less
@@ -139,6 +139,6 @@ impl Echelon {
             x.terms(),
             &mut coefficients,
         );
-        combination_of(alloc, &coefficients)
+        Combo::from_dense(alloc, &coefficients)
     }
 }

@@ -104,16 +104,3 @@ pub fn greatest_place(numbers: &[u32]) -> Option<usize>
     }
     None
 }
-
-/// The combination of the numbers that aren't 0, each at its place in the list.
-pub fn combination_of(alloc: Global, numbers: &[u32]) -> Result<Combo, OutOfMemory>
-    requires { length numbers.now ≤ 2 ^ 32 }
-    ensures vector { IfOk result (λ c. (p : ℕ) → sparse p c ≡ dense p numbers.now) }
-    ensures residues { IfOk result (λ c. (p : ℕ) → AreResidues p numbers.now → HasResidues p c) }
-    ensures places { IfOk result (λ c. HasPlacesBelow (length numbers.now) c) }
-{
-    let combination = Combo::from_dense(alloc, numbers)?;
-    // The bound on places rests on the terms' having no 0.
-    let _nonzero = combination.terms();
-    Ok(combination)
-}

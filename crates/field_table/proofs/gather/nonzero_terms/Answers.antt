@@ -1,5 +1,5 @@
 use Rattle.std.proofs.Common.{arith}
-use Rattle.field_table.proofs.Gathering.{listing_some, listing_zero, sparse-listing, HasResidues-listing}
+use Rattle.field_table.proofs.Gathering.{listing_some, listing_zero, sparse-listing, HasResidues-listing, HasPlacesBelow-listing}
 use Rattle.field_table.proofs.gather.nonzero_terms.Goals as goal
 use Rattle.field_table.proofs.gather.nonzero_terms.Goals.{then-numbers-place-ne0+in_ok-push, else-numbers-place-ne0}
 
@@ -14,3 +14,6 @@ returns-clause-vector c p = sparse-listing p c.args.numbers.now c.loop-place.pla
 
 pub returns-clause-residues : goal.returns-clause-residues
 returns-clause-residues c p = HasResidues-listing p c.args.numbers.now c.loop-place.place c.loop-place.terms.items (omega arith) c.loop-place.invariant
+
+pub returns-clause-places : goal.returns-clause-places
+returns-clause-places c = HasPlacesBelow-listing c.args.numbers.now c.loop-place.place c.loop-place.terms.items (omega arith) c.loop-place.invariant

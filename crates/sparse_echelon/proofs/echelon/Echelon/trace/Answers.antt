@@ -13,7 +13,7 @@ returns-clause-trace c =
     let sum : c.deref-2.result.now ≡ c.add_rows_of.new.acc = c.deref-2.ensures.value ∙ with_items_is c.in_ok-coefficients.coefficients c.add_rows_of.new.acc (omega (arith, c.in_ok-coefficients.coefficients.ok.0, c.add_rows_of.auto.acc, ap length c.deref_mut.ensures.value)) in
     let filled : c.deref_mut.result.now ≡ replicate c.len.result 0 = c.deref_mut.ensures.value ∙ c.in_ok-coefficients.ensures.items_if_clones_equal (λ y h. h) in
     let zero = ap (dense c.self.inside.field) filled ∙ dense-replicate c.self.inside.field c.len.result in
-    IfOk-weaker c.combination_of.result (λ y. (p : ℕ) → sparse p y ≡ dense p c.deref-2.result.now) _
+    IfOk-weaker c.from_dense.result (λ y. (p : ℕ) → sparse p y ≡ dense p c.deref-2.result.now) _
     (λ y same. subst (λ (s : System). IsTraceOf (vectors s) (vector s c.args.x.now) (vector s y)) c.self.view_is
     (trace_from_logs _ _ c.self.invariant c.args.x.now y c.deref_mut.result.now c.add_rows_of.new.acc zero (rw (c.deref.ensures.value, c.terms.ensures.terms) at c.add_rows_of.ensures.sum) (same c.self.inside.field ∙ ap (dense c.self.inside.field) sum)))
-    c.combination_of.ensures.vector
+    c.from_dense.ensures.vector
