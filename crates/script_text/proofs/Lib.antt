@@ -5,3 +5,4 @@ pub mod TermLemmas
 pub mod WalkLemmas
 pub mod TableLemmas
 pub mod FormLemmas
+pub mod WithinLemmas

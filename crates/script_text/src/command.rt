@@ -1,9 +1,9 @@
 //! Commands.
 
-ghost use Rattle.std.specs.Prelude.{◌≡◌};
+ghost use Rattle.std.specs.Prelude.{◌≡◌, IfOk};
 ghost use Rattle.std.specs.List.{list_any};
 ghost use Rattle.script_text.specs.Limits.{is_past, is_term_past, limit_of};
-ghost use Rattle.script_text.specs.Commands.{command, command_of, AnswersCommand};
+ghost use Rattle.script_text.specs.Commands.{command, command_of, AnswersCommand, IsWithin};
 ghost use Rattle.script_text.specs.Walk.{given};
 
 use crate::command_fault::{CommandFault, LimitWord};
@@ -185,6 +185,7 @@ fn broken_limit(fields: &Fields) -> Option<LimitWord>
 /// line's length, and its memory that of the numbers that the command keeps.
 pub fn parse_command(alloc: Global, line: &CommandLine) -> Result<Command, CommandFault>
     ensures read { AnswersCommand result (command_of line.now.text) }
+    ensures within { IfOk result IsWithin }
 {
     let text = line.text.as_slice();
     let Some((first, rest)) = next_token(text) else {

@@ -2,15 +2,16 @@ use Rattle.std.proofs.Common.{◌≡◌, ◌∷◌, [], sym, ap, subst, ◌∙�
 use Rattle.std.proofs.lemmas.Result.{err_from_is_err_and}
 use Rattle.text_lines.specs.Lines.{tokens}
 use Rattle.script_text.specs.Numbered.{NumberedLine}
-use Rattle.script_text.specs.Commands.{AnswersCommand}
+use Rattle.script_text.specs.Commands.{AnswersCommand, IsWithin}
 use Rattle.script_text.specs.Walk.{given}
 use Rattle.script_text.proofs.FormLemmas.{command_of-tokens, empty-line, unknown-word, refused, past_limit, accepted}
+use Rattle.script_text.proofs.WithinLemmas.{IsWithin-command}
 use Rattle.script_text.proofs.command.parse_command.Goals as goal
 
 pub returns-in_default : goal.returns-in_default
 returns-in_default c =
     let same : c.as_slice-text.result.now ≡ c.args.line.now.text = c.as_slice-text.ensures.value ∙ ap (λ (l : NumberedLine). l.text) c.line.view_is in
-    record { read = command_of-tokens c.args.line.now.text c.as_slice-text.result.now [] same (c.in_default.ensures {u = tt}).token ∙ empty-line }
+    record { read = command_of-tokens c.args.line.now.text c.as_slice-text.result.now [] same (c.in_default.ensures {u = tt}).token ∙ empty-line; within = tt }
 
 pub returns-in_default-word_of : goal.returns-in_default-word_of
 returns-in_default-word_of c =
@@ -18,6 +19,7 @@ returns-in_default-word_of c =
     record {
       read = command_of-tokens c.args.line.now.text c.as_slice-text.result.now (c.in-Some.first.now ∷ tokens c.in-Some.rest.now) same (c.in-Some.ensures {u = tt}).token
           ∙ unknown-word c.in-Some.first.now (tokens c.in-Some.rest.now) (c.in_default-word_of.ensures {u = tt});
+      within = tt;
     }
 
 pub returns-in_err-fields : goal.returns-in_err-fields
@@ -28,6 +30,7 @@ returns-in_err-fields c =
     record {
       read = rw (p.1, p.2) (subst (λ r. AnswersCommand (Err c.in_err-fields.field-0.0) r) (sym read)
           (refused c.in-Some-word_of.word c.in-Some.first.now (tokens c.in-Some.rest.now) c.in_err-fields.field-0.0 (c.in-Some-word_of.ensures {u = tt}) (c.in_err-fields.ensures {u = tt})));
+      within = rw p.1 tt;
     }
 
 pub returns-in-Some-broken_limit : goal.returns-in-Some-broken_limit
@@ -37,6 +40,7 @@ returns-in-Some-broken_limit c =
       read = command_of-tokens c.args.line.now.text c.as_slice-text.result.now (c.in-Some.first.now ∷ tokens c.in-Some.rest.now) same (c.in-Some.ensures {u = tt}).token
           ∙ past_limit c.in-Some-word_of.word c.in-Some.first.now (tokens c.in-Some.rest.now) (given c.in_ok-fields.fields) c.in-Some-broken_limit.what
           (c.in-Some-word_of.ensures {u = tt}) (c.in_ok-fields.ensures {u = tt}) (c.in-Some-broken_limit.ensures {u = tt});
+      within = tt;
     }
 
 pub returns : goal.returns
@@ -47,4 +51,5 @@ returns c =
           ∙ accepted c.in-Some-word_of.word c.in-Some.first.now (tokens c.in-Some.rest.now) (given c.in_ok-fields.fields)
           (c.in-Some-word_of.ensures {u = tt}) (c.in_ok-fields.ensures {u = tt}) (c.in_default-broken_limit.ensures {u = tt})
           ∙ ap (λ x. Ok x) (sym c.command_from.ensures);
+      within = subst IsWithin (sym c.command_from.ensures) (IsWithin-command c.in-Some-word_of.word (given c.in_ok-fields.fields) (sym (c.in_default-broken_limit.ensures {u = tt})));
     }
