@@ -1,0 +1,6 @@
+pub mod Pieces
+pub mod Entries
+pub mod Rows
+pub mod Members
+pub mod SmallSets
+pub mod Faults

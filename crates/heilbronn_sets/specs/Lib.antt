@@ -1,0 +1,2 @@
+pub mod Merel
+pub mod Sets
