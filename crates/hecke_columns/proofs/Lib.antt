@@ -1,0 +1,4 @@
+pub mod Coprime
+pub mod Hits
+pub mod Sums
+pub mod Columns

@@ -1,0 +1,17 @@
+//! Hecke sums over lists of matrices, one column of coordinates for each symbol, and sources that add such
+//! columns.
+#![tactic(auto)]
+
+mod column;
+mod laws;
+mod local;
+mod source;
+mod sum;
+#[cfg(test)]
+mod tests;
+
+pub use column::Column;
+pub use laws::{columns_add_up, sums_are_linear};
+pub use local::LocalColumns;
+pub use source::ColumnSource;
+pub use sum::column_of;
