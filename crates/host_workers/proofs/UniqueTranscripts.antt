@@ -1,10 +1,12 @@
 -- What is answered where no memory is wanting: there is one reply to a command line, and one transcript of a script.
 use Rattle.std.proofs.Common.{◌≡◌, ◌≢◌, ◌⊎◌, inl, inr, ℕ, ◌+◌, List, [], ◌∷◌, Option, None, Some, Result, Ok, Err, All, refl, sym, ◌∙◌, ap}
 use Rattle.std.proofs.lemmas.List.Elements.{All-head, All-tail}
+use Rattle.std.specs.Set.{distinct_count}
 use Rattle.linear_algebra.specs.Prime.{IsPrime}
 use Rattle.linear_algebra.specs.Sparse.{sparse}
 use Rattle.field_table.specs.Table.{IsListed}
 use Rattle.field_table.proofs.TableFacts.{listed_prime}
+use Rattle.hecke_columns.specs.Hecke.{merel_sum}
 use Rattle.op_polynomials.specs.declared.entry.SplitEntry.{SplitEntry}
 use Rattle.script_text.specs.declared.command.Command.{Command}
 use Rattle.script_text.specs.declared.command.Command.TheVariants as commands
@@ -20,6 +22,8 @@ use Rattle.reply_text.specs.declared.transcript.ReplyLine.{ReplyLine}
 use Rattle.reply_text.specs.declared.transcript.Transcript.{Transcript}
 use Rattle.host_workers.specs.Replies.{combination, refusal_of, IsAnswer, UnlessRefused, IsReplyTo, IsReply}
 use Rattle.host_workers.specs.Sessions.{IsReplyLine, AreReplies, AreSessions, IsSoloTranscript, HasNoMemory}
+use Rattle.host_workers.specs.Columns.{is_pair, session_asked}
+use Rattle.host_workers.proofs.ColumnSessions.{columns_demanded}
 use Rattle.quotient_coords.proofs.Unique.{coordinates_same, trace_same}
 
 -- a command has one answer
@@ -33,7 +37,8 @@ answer_once N p prime (commands.Certify terms) r s h k =
     ∙ ap (λ values. replies.Certified values h.1) (coordinates_same prime N (sparse p (combination N p terms)) h.0 k.0 h.3 k.3)
     ∙ ap (λ trace. replies.Certified k.0 trace) (trace_same N p (combination N p terms) h.1 k.1 prime h.4 k.4)
     ∙ sym k.2
-answer_once N p prime (commands.Image n terms) r s h k = absurd h
+answer_once N p prime (commands.Image n terms) r s h k =
+    h.1 ∙ ap replies.Coords (coordinates_same prime N (merel_sum N n (sparse p (combination N p terms))) h.0 k.0 h.2 k.2) ∙ sym k.1
 answer_once N p prime (commands.Star terms) r s h k = absurd h
 answer_once N p prime (commands.Boundary terms) r s h k = absurd h
 answer_once N p prime commands.Cusps r s h k = absurd h
@@ -43,7 +48,7 @@ answer_once N p prime (commands.Poly op coefficients coords) r s h k = absurd h
 answer_once N p prime (commands.Split op coefficients) r s h k = absurd h
 answer_once N p prime commands.Show r s h k = absurd h
 answer_once N p prime (commands.Part number) r s h k = absurd h
-answer_once N p prime (commands.Chains n) r s h k = absurd h
+answer_once N p prime (commands.Chains n) r s h k = h ∙ sym k
 
 -- a refusal is one reply, and else the answer is
 unless_once : (refusal : Option Refusal) (A B : Type 0) (r s : Reply) → (A → B → r ≡ s) → UnlessRefused refusal A r → UnlessRefused refusal B s → r ≡ s
@@ -106,10 +111,14 @@ same_transcript : (s t : Transcript) → s.modulus ≡ t.modulus → s.character
 same_transcript s t modulus characteristic count sessions history columns =
     λ i. record { modulus = modulus i; characteristic = characteristic i; symbols = count i; sessions = sessions i; history = history i; columns = columns i }
 
+-- its columns are those that its commands demand
+pub columns_counted : (script : ScriptText) (t : Transcript) → IsSoloTranscript script t → HasNoMemory t → t.columns ≡ distinct_count is_pair (session_asked script.space.modulus script.sessions)
+columns_counted script t h some = columns_demanded script.space.modulus t.columns script.sessions t.sessions h.columns some
+
 -- a script has one transcript
 pub transcript_once : (script : ScriptText) (s t : Transcript) → IsListed script.space.characteristic
     → IsSoloTranscript script s → IsSoloTranscript script t → HasNoMemory s → HasNoMemory t → s ≡ t
 transcript_once script s t listed h k some other = same_transcript s t
     (h.modulus ∙ sym k.modulus) (h.characteristic ∙ sym k.characteristic) (h.symbol_count ∙ sym k.symbol_count)
     (sessions_once script.space.modulus script.space.characteristic (listed_prime script.space.characteristic listed) [] script.sessions s.sessions t.sessions h.sessions k.sessions some other)
-    (h.history ∙ sym k.history) (h.columns ∙ sym k.columns)
+    (h.history ∙ sym k.history) (columns_counted script s h some ∙ sym (columns_counted script t k other))

@@ -2,14 +2,18 @@
 --   symbol_of N t            the symbol that the pair of a term names
 --   first_unnamed N ts       the place, from 0, of the first term whose pair names no point
 --   combination N p ts       the combination of the terms: each symbol by its number, each coefficient by its residue
+--   uncoprime N n            the refusal of a number n of matrices' determinant that is not coprime to N
+--   first_of a b             the first of two refusals that applies
 --   refusal_of N c           the first refusal that applies to a command whose line breaks no rule and no limit
 --   IsAnswer N p c reply     the reply answers the command, where nothing refuses it
 --   IsReplyTo N p read reply the reply to what a line is read as: the first refusal, else the answer
 --   IsReply N p es text r    the reply to a command line, after the history es of accepted splits
 -- The history is empty until splits are answered.
-use Rattle.std.specs.Prelude.{◌≡◌, ℕ, ℤ, pos, ◌+◌, Bool, not, List, [], ◌∷◌, map, nat_eq, position, Option, Some, None, Result, Ok, Err}
+use Rattle.std.specs.Prelude.{◌≡◌, ℕ, ℤ, pos, ◌+◌, Bool, not, List, [], ◌∷◌, length, map, nat_eq, position, Option, Some, None, Result, Ok, Err, if◌then◌else◌}
+use Rattle.linear_algebra.specs.Sparse.{sparse}
 use Rattle.field_table.specs.Terms.{residue_terms}
 use Rattle.p1_normal.specs.declared.point.Point.{Point}
+use Rattle.p1_normal.specs.Units.{gcd}
 use Rattle.p1_normal.specs.Points.{reduced, common_divisor, normal_form, number, symbol_at}
 use Rattle.op_polynomials.specs.declared.entry.SplitEntry.{SplitEntry}
 use Rattle.script_text.specs.declared.command.Command.{Command}
@@ -18,7 +22,9 @@ use Rattle.script_text.specs.declared.command_fault.CommandFault.{CommandFault}
 use Rattle.script_text.specs.declared.command_fault.CommandFault.TheVariants as faults
 use Rattle.script_text.specs.declared.term.Term.{Term}
 use Rattle.script_text.specs.Commands.{command_of}
-use Rattle.quotient_coords.specs.Quotient.{free_symbols, HasCoordinates, HasTrace}
+use Rattle.quotient_coords.specs.Quotient.{free_symbols, AreCoordinates, HasCoordinates, HasTrace}
+use Rattle.heilbronn_sets.specs.Merel.{merel_matrices, starts}
+use Rattle.hecke_columns.specs.Hecke.{merel_sum}
 use Rattle.reply_text.specs.declared.reply.Reply.{Reply}
 use Rattle.reply_text.specs.declared.reply.Reply.TheVariants as replies
 use Rattle.reply_text.specs.declared.refusal.Refusal.{Refusal}
@@ -47,11 +53,20 @@ abbrev pub unnamed : Option ℕ → Option Refusal
 unnamed None = None
 unnamed (Some i) = Some (refusals.NotSymbol (i + 1))
 
+abbrev pub uncoprime : ℕ → ℕ → Option Refusal
+uncoprime N n = if nat_eq (gcd n N) 1 then None else Some (refusals.NotCoprime (gcd n N))
+
+abbrev pub first_of : Option Refusal → Option Refusal → Option Refusal
+first_of None next = next
+first_of (Some refusal) next = Some refusal
+
 abbrev pub refusal_of : ℕ → Command → Option Refusal
 refusal_of N (commands.Normal u v) = unnamed (first_unnamed N (pair u v ∷ []))
 refusal_of N commands.Basis = None
 refusal_of N (commands.Reduce terms) = unnamed (first_unnamed N terms)
 refusal_of N (commands.Certify terms) = unnamed (first_unnamed N terms)
+refusal_of N (commands.Image n terms) = first_of (unnamed (first_unnamed N terms)) (uncoprime N n)
+refusal_of N (commands.Chains n) = None
 refusal_of N command = Some refusals.Unbuilt
 
 abbrev pub IsAnswer : ℕ → ℕ → Command → Reply → Type 0
@@ -62,6 +77,9 @@ IsAnswer N p (commands.Reduce terms) reply =
 IsAnswer N p (commands.Certify terms) reply =
     (values : List ℕ) × (trace : List (ℕ × ℕ)) × (reply ≡ replies.Certified values trace)
     × HasCoordinates N p (combination N p terms) values × HasTrace N p (combination N p terms) trace
+IsAnswer N p (commands.Image n terms) reply =
+    (values : List ℕ) × (reply ≡ replies.Coords values) × AreCoordinates N (merel_sum N n (sparse p (combination N p terms))) values
+IsAnswer N p (commands.Chains n) reply = reply ≡ replies.Chains (length (starts n)) (length (merel_matrices n))
 IsAnswer N p command reply = ⊥
 
 abbrev pub UnlessRefused : Option Refusal → Type 0 → Reply → Type 0

@@ -5,7 +5,9 @@
 --   IsSoloTranscript script t     the transcript of the script
 --   HasNoMemory t                 no reply is want of memory
 --   TranscriptsAreUnique          a script has one transcript, where no reply is want of memory
+--   ColumnsAreDemanded            then it counts the distinct pairs that the commands demand
 use Rattle.std.specs.Prelude.{◌≡◌, ◌≢◌, ℕ, ◌+◌, ◌⊎◌, List, [], ◌∷◌, length, All}
+use Rattle.std.specs.Set.{distinct_count}
 use Rattle.field_table.specs.Table.{IsListed}
 use Rattle.p1_normal.specs.Points.{symbols}
 use Rattle.op_polynomials.specs.declared.entry.SplitEntry.{SplitEntry}
@@ -15,6 +17,7 @@ use Rattle.reply_text.specs.declared.reply.Reply.TheVariants.{Memory}
 use Rattle.reply_text.specs.declared.transcript.ReplyLine.{ReplyLine}
 use Rattle.reply_text.specs.declared.transcript.Transcript.{Transcript}
 use Rattle.host_workers.specs.Replies.{IsReply}
+use Rattle.host_workers.specs.Columns.{CountsColumns, is_pair, session_asked}
 
 pub record IsReplyLine (N p : ℕ) (history : List SplitEntry) (number : ℕ) (text : List ℕ) (line : ReplyLine) : Type 0 where
   pub numbered : line.number ≡ number
@@ -39,7 +42,7 @@ pub record IsSoloTranscript (script : ScriptText) (t : Transcript) : Type 0 wher
   pub symbol_count : t.symbols ≡ length (symbols script.space.modulus)
   pub sessions : AreSessions script.space.modulus script.space.characteristic [] script.sessions t.sessions
   pub history : t.history ≡ []
-  pub columns : t.columns ≡ 0
+  pub columns : CountsColumns script.space.modulus script.sessions t.sessions t.columns
 
 abbrev pub HasNoMemory : Transcript → Type 0
 HasNoMemory t = All (λ replies. All (λ line. line.reply ≢ Memory) replies) t.sessions
@@ -47,3 +50,7 @@ HasNoMemory t = All (λ replies. All (λ line. line.reply ≢ Memory) replies) t
 abbrev pub TranscriptsAreUnique : Type 0
 TranscriptsAreUnique = (script : ScriptText) (s t : Transcript) → IsListed script.space.characteristic
     → IsSoloTranscript script s → IsSoloTranscript script t → HasNoMemory s → HasNoMemory t → s ≡ t
+
+abbrev pub ColumnsAreDemanded : Type 0
+ColumnsAreDemanded = (script : ScriptText) (t : Transcript) → IsSoloTranscript script t → HasNoMemory t
+    → t.columns ≡ distinct_count is_pair (session_asked script.space.modulus script.sessions)

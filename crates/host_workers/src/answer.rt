@@ -1,10 +1,15 @@
-ghost use Rattle.std.specs.Prelude.{◌≡◌, [], IfOk, map};
+ghost use Rattle.std.specs.Prelude.{◌≡◌, ◌≤◌, ℕ, [], IfOk, OnOk, length, map};
+ghost use Rattle.script_text.specs.Commands.{IsWithin};
+ghost use Rattle.script_text.specs.declared.limits.TheConstants.{MAX_TERMS};
+ghost use Rattle.host_workers.specs.Columns.{Adds, Has, asked, asked_of};
 ghost use Rattle.script_text.specs.declared.command.Command.TheVariants as commands;
 ghost use Rattle.p1_normal.specs.Points.{symbol_at};
 ghost use Rattle.quotient_coords.specs.Quotient.{free_symbols};
 ghost use Rattle.host_workers.specs.Replies.{IsReply, IsAnswer, UnlessRefused, refusal_of};
 
+use crate::column_table::ColumnTable;
 use crate::combination::{TermFault, combination_of};
+use crate::image::{chains, image};
 use field_table::OutOfMemory;
 use p1_normal::Point;
 use quotient_coords::{Certificate, Space};
@@ -12,12 +17,21 @@ use reply_text::{Pairs, Points, Refusal, Reply};
 use script_text::{Command, CommandFault, CommandLine, Terms, parse_command};
 use std::alloc::Global;
 
-/// The reply to a command line, before any accepted split.
-pub fn reply_to(alloc: Global, space: &Space, line: &CommandLine) -> Result<Reply, OutOfMemory>
-    ensures { IfOk result (IsReply space.now.level space.now.characteristic [] line.now.text) }
+/// The reply to a command line, before any accepted split. The columns that it demands are in the table afterwards.
+pub fn reply_to(
+    alloc: Global,
+    space: &Space,
+    columns: &mut ColumnTable,
+    line: &CommandLine,
+) -> Result<Reply, OutOfMemory>
+    requires ground { columns.old.ground ≡ space.now }
+    ensures reply { IfOk result (IsReply space.now.level space.now.characteristic [] line.now.text) }
+    ensures ground { columns.new.ground ≡ space.now }
+    ensures adds { Adds (asked space.now.level line.now.text) columns.old.pairs columns.new.pairs }
+    ensures held { OnOk result ((q : ℕ × ℕ) → Has (asked space.now.level line.now.text) q → Has columns.new.pairs q) }
 {
     match parse_command(alloc, line) {
-        Ok(command) => answer(alloc, space, &command),
+        Ok(command) => answer(alloc, space, columns, &command),
         Err(CommandFault::Grammar { token }) => Ok(Reply::Refused(Refusal::Grammar { token })),
         Err(CommandFault::Limit { what }) => Ok(Reply::Refused(Refusal::Limit { what })),
         Err(CommandFault::OutOfMemory) => Err(OutOfMemory),
@@ -25,15 +39,27 @@ pub fn reply_to(alloc: Global, space: &Space, line: &CommandLine) -> Result<Repl
 }
 
 // The reply to a command: the first refusal that applies, else the answer.
-fn answer(alloc: Global, space: &Space, command: &Command) -> Result<Reply, OutOfMemory>
-    ensures { IfOk result (λ reply. UnlessRefused (refusal_of space.now.level command.now)
+fn answer(
+    alloc: Global,
+    space: &Space,
+    columns: &mut ColumnTable,
+    command: &Command,
+) -> Result<Reply, OutOfMemory>
+    requires ground { columns.old.ground ≡ space.now }
+    requires within { IsWithin command.now }
+    ensures reply { IfOk result (λ reply. UnlessRefused (refusal_of space.now.level command.now)
         (IsAnswer space.now.level space.now.characteristic command.now reply) reply) }
+    ensures ground { columns.new.ground ≡ space.now }
+    ensures adds { Adds (asked_of space.now.level command.now) columns.old.pairs columns.new.pairs }
+    ensures held { OnOk result ((q : ℕ × ℕ) → Has (asked_of space.now.level command.now) q → Has columns.new.pairs q) }
 {
     match command {
         Command::Normal { u, v } => Ok(normal(space, *u, *v)),
         Command::Basis => basis(alloc, space),
         Command::Reduce { terms } => reduce(alloc, space, terms),
         Command::Certify { terms } => certify(alloc, space, terms),
+        Command::Image { n, terms } => image(alloc, space, columns, *n, terms),
+        Command::Chains { n } => chains(alloc, columns, *n),
         _ => Ok(Reply::Refused(Refusal::Unbuilt)),
     }
 }
@@ -70,6 +96,7 @@ fn basis(alloc: Global, space: &Space) -> Result<Reply, OutOfMemory>
 
 // The coordinates of a combination.
 fn reduce(alloc: Global, space: &Space, terms: &Terms) -> Result<Reply, OutOfMemory>
+    requires few { length terms.now ≤ MAX_TERMS }
     ensures { IfOk result (λ reply. UnlessRefused (refusal_of space.now.level (commands.Reduce terms.now))
         (IsAnswer space.now.level space.now.characteristic (commands.Reduce terms.now) reply) reply) }
 {
@@ -85,6 +112,7 @@ fn reduce(alloc: Global, space: &Space, terms: &Terms) -> Result<Reply, OutOfMem
 
 // The coordinates of a combination with their certificate.
 fn certify(alloc: Global, space: &Space, terms: &Terms) -> Result<Reply, OutOfMemory>
+    requires few { length terms.now ≤ MAX_TERMS }
     ensures { IfOk result (λ reply. UnlessRefused (refusal_of space.now.level (commands.Certify terms.now))
         (IsAnswer space.now.level space.now.characteristic (commands.Certify terms.now) reply) reply) }
 {

@@ -19,8 +19,9 @@ pub enum TermFault {
     Unnamed(u32),
 }
 
-// The symbols' numbers with the coefficients.
-fn numbered(alloc: Global, level: &Level, terms: &[Term]) -> Result<Vec<(u32, i64)>, TermFault>
+/// The symbols' numbers with the coefficients, or the first term whose pair names no point. Costs a look-up for each
+/// term.
+pub fn numbered(alloc: Global, level: &Level, terms: &[Term]) -> Result<Vec<(u32, i64)>, TermFault>
     requires few { length terms.now ≤ MAX_TERMS }
     ensures terms { IfOk result (λ v. v.items ≡ symbol_terms level.now terms.now) }
     ensures places { IfOk result (λ v. All (λ t. t.0 < length (symbols level.now)) v.items) }
@@ -51,16 +52,13 @@ pub fn combination_of(
     field: Field,
     terms: &[Term],
 ) -> Result<Combo, TermFault>
+    requires few { length terms.now ≤ MAX_TERMS }
     ensures vector { IfOk result (λ c. sparse field c ≡ sparse field (combination level.now field terms.now)) }
     ensures places { IfOk result (HasPlacesBelow (length (symbols level.now))) }
     ensures residues { IfOk result (HasResidues field) }
     ensures named { IfOk result (λ _. first_unnamed level.now terms.now ≡ None) }
     ensures unnamed { (i : ℕ) → result ≡ Err (TermFault.Unnamed i) → unnamed (first_unnamed level.now terms.now) ≡ Some (refusals.NotSymbol i) }
 {
-    // No command that is read has more terms.
-    if terms.len() > MAX_TERMS {
-        return Err(TermFault::OutOfMemory);
-    }
     let numbers = numbered(alloc, level, terms)?;
     let Ok(combo) = Combo::from_terms(alloc, field, &numbers) else {
         return Err(TermFault::OutOfMemory);

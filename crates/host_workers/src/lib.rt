@@ -4,9 +4,11 @@
 #![tactic(auto)]
 
 mod answer;
+mod column_table;
 mod combination;
 mod gate;
 mod host;
+mod image;
 mod laws;
 mod sessions;
 mod solo;

@@ -1,6 +1,7 @@
-ghost use Rattle.std.specs.Prelude.{◌≡◌, ◌≤◌, [], IfOk, length};
+ghost use Rattle.std.specs.Prelude.{◌≡◌, ◌≤◌, [], IfOk, OnOk, length};
 ghost use Rattle.p1_normal.specs.Points.{symbols};
 ghost use Rattle.script_text.specs.Valid.{command_count};
+ghost use Rattle.host_workers.specs.Columns.{Adds, AreAllHeld, AreHeld, all_asked, session_asked};
 ghost use Rattle.host_workers.specs.Sessions.{AreReplies, AreSessions, IsSoloTranscript};
 
 use crate::host::Host;
@@ -19,8 +20,10 @@ fn replies(
     lines: &[CommandLine],
 ) -> Result<SessionReplies, OutOfMemory>
     requires { length lines.now ≤ MAX_COMMANDS }
-    ensures replies { IfOk result (AreReplies host.old.space.level host.old.space.characteristic [] 1 lines.now) }
-    ensures space { host.new.space ≡ host.old.space }
+    ensures replies { IfOk result (AreReplies host.old.ground.level host.old.ground.characteristic [] 1 lines.now) }
+    ensures ground { host.new.ground ≡ host.old.ground }
+    ensures adds { OnOk result (Adds (all_asked host.old.ground.level lines.now) host.old.pairs host.new.pairs) }
+    ensures held { IfOk result (AreHeld host.old.ground.level host.new.pairs lines.now) }
 {
     let mut replies = Vec::with_capacity(alloc, lines.len())?;
     let mut number = 1;
@@ -39,7 +42,10 @@ fn all_replies(
 ) -> Result<Sessions, OutOfMemory>
     requires sessions { length sessions.now ≤ MAX_SESSIONS }
     requires commands { command_count sessions.now ≤ MAX_COMMANDS }
-    ensures { IfOk result (AreSessions host.old.space.level host.old.space.characteristic [] sessions.now) }
+    ensures replies { IfOk result (AreSessions host.old.ground.level host.old.ground.characteristic [] sessions.now) }
+    ensures ground { host.new.ground ≡ host.old.ground }
+    ensures adds { OnOk result (Adds (session_asked host.old.ground.level sessions.now) host.old.pairs host.new.pairs) }
+    ensures held { IfOk result (AreAllHeld host.old.ground.level host.new.pairs sessions.now) }
 {
     let mut all = Vec::with_capacity(alloc, sessions.len())?;
     let mut number = 1;
@@ -79,6 +85,6 @@ pub fn transcript_of(alloc: Global, script: &Script) -> Result<Transcript, OutOf
         symbols,
         sessions,
         history: History::of(Vec::new(alloc)),
-        columns: 0,
+        columns: host.columns(),
     })
 }

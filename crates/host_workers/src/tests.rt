@@ -15,6 +15,17 @@ const COORDS: &[u8] =
 const ANSWERS: &[u8] =
     b"transcript 1\nspace 11 101 symbols 12\nsession 1\n1 @0 ok coords 0 100 1\n2 @0 ok certified 0 100 1 by 4:100 15:1\n3 @0 ok certified 1 0 0 by\n4 @0 ok coords 100 99 100\n5 @0 ok coords 0 0 0\nsession 2\n1 @0 ok basis 3 (0:1) (1:2) (1:3)\n2 @0 err unbuilt\n3 @0 err not_symbol 2\n4 @0 err grammar 3\nhistory 0\ncolumns 0\nend\n";
 
+const IMAGES: &[u8] =
+    b"space 11 101\nsession\nimage 2 1:0:1\nimage 2 1:1:2\nimage 2 1:1:3\nimage 3 1:0:1\nimage 1 1:1:3\nchains 4\nchains 3\nsession\nimage 2\nimage 2 1:0:1\nimage 22 1:0:1\nimage 22 1:11:0\nimage 201 1:0:1\nchains 0\n";
+
+const IMAGE_ANSWERS: &[u8] =
+    b"transcript 1\nspace 11 101 symbols 12\nsession 1\n1 @0 ok coords 3 1 0\n2 @0 ok coords 0 99 0\n3 @0 ok coords 0 0 99\n4 @0 ok coords 4 1 0\n5 @0 ok coords 0 0 1\n6 @0 ok chains 7 matrices 13\n7 @0 ok chains 4 matrices 7\nsession 2\n1 @0 ok coords 0 0 0\n2 @0 ok coords 3 1 0\n3 @0 err not_coprime 11\n4 @0 err not_symbol 1\n5 @0 err limit n\n6 @0 err limit n\nhistory 0\ncolumns 5\nend\n";
+
+const ZERO_COEFFICIENT: &[u8] = b"space 11 101\nsession\nimage 2\nimage 2 101:0:1\n";
+
+const ZERO_ANSWERS: &[u8] =
+    b"transcript 1\nspace 11 101 symbols 12\nsession 1\n1 @0 ok coords 0 0 0\n2 @0 ok coords 0 0 0\nhistory 0\ncolumns 1\nend\n";
+
 // A script with the calls of the input and of the output that fail, the room of the output, the status and what is written.
 #[derive(Clone, Copy)]
 struct Case {
@@ -41,10 +52,12 @@ fn bad(script: &'static [u8], line: u32, cause: ScriptCause) -> Case {
     plain(script, Status::BadScript { line, cause }, b"")
 }
 
-fn cases() -> [Case; 9] {
+fn cases() -> [Case; 11] {
     [
         plain(SCRIPT, Status::Done, TRANSCRIPT),
         plain(COORDS, Status::Done, ANSWERS),
+        plain(IMAGES, Status::Done, IMAGE_ANSWERS),
+        plain(ZERO_COEFFICIENT, Status::Done, ZERO_ANSWERS),
         Case {
             read_fails: &[1],
             ..plain(SCRIPT, Status::ReadFault, b"")

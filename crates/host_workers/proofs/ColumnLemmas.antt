@@ -1,0 +1,91 @@
+-- Pairs of columns: lists that hold them, and what replies add.
+use Rattle.std.proofs.Common.{◌≡◌, ◌≢◌, ◌⊎◌, ◌+◌, ◌<◌, ℕ, ℤ, Bool, true, false, List, [], ◌∷◌, ◌++◌, length, get_or, map, take, Option, None, Some, nat_eq, ◌&&◌, ◌||◌, refl, sym, ◌∙◌, ap, subst, inl, inr, arith}
+use Rattle.std.specs.List.{list_any, flat_map}
+use Rattle.std.specs.Set.{is_member}
+use Rattle.std.specs.Cmp.{IsEquivalence, and_equiv, on_equiv, nat_eq_equiv}
+use Rattle.std.proofs.lemmas.Bool.{true≢false, eqb-true}
+use Rattle.std.proofs.lemmas.List.Folds.{list_any-append}
+use Rattle.reply_text.specs.declared.refusal.Refusal.{Refusal}
+use Rattle.reply_text.specs.declared.reply.Reply.{Reply}
+use Rattle.reply_text.specs.declared.reply.Reply.TheVariants.{Memory}
+use Rattle.host_workers.specs.Columns.{is_pair, Has, Adds, Gathers, unless_refused}
+
+-- one of two tests passes
+either : (a b : Bool) → (a || b) ≡ true → (a ≡ true) ⊎ (b ≡ true)
+either true b e = inl refl
+either false b e = inr e
+
+-- what passes passes beside another test
+first_passes : (a b : Bool) → a ≡ true → (a || b) ≡ true
+first_passes a b e = ap (λ t. t || b) e
+
+second_passes : (a b : Bool) → b ≡ true → (a || b) ≡ true
+second_passes true b e = refl
+second_passes false b e = e
+
+-- two lists hold what either holds
+pub Has-append_left : (xs ys : List (ℕ × ℕ)) (q : ℕ × ℕ) → Has xs q → Has (xs ++ ys) q
+Has-append_left xs ys q h = list_any-append (is_pair q) xs ys ∙ first_passes (is_member is_pair xs q) (is_member is_pair ys q) h
+
+pub Has-append_right : (xs ys : List (ℕ × ℕ)) (q : ℕ × ℕ) → Has ys q → Has (xs ++ ys) q
+Has-append_right xs ys q h = list_any-append (is_pair q) xs ys ∙ second_passes (is_member is_pair xs q) (is_member is_pair ys q) h
+
+pub Has-from_append : (xs ys : List (ℕ × ℕ)) (q : ℕ × ℕ) → Has (xs ++ ys) q → Has xs q ⊎ Has ys q
+Has-from_append xs ys q h = either (is_member is_pair xs q) (is_member is_pair ys q) (sym (list_any-append (is_pair q) xs ys) ∙ h)
+
+-- nothing is in no list
+pub Has-nil : (q : ℕ × ℕ) → Has [] q → ⊥
+Has-nil q h = true≢false (sym h)
+
+-- pairs that pass the test are one
+pub is_pair-eq : (a b : ℕ × ℕ) → is_pair a b ≡ true → a ≡ b
+is_pair-eq (a, b) (c, d) e = by (nat_eq a c) (nat_eq b d) (eqb-true a c) (eqb-true b d) e
+  where
+    by : (s t : Bool) → (s ≡ true → a ≡ c) → (t ≡ true → b ≡ d) → (s && t) ≡ true → ◌≡◌ {A = ℕ × ℕ} (a, b) (c, d)
+    by true true f g h = ap (λ x. (x, b)) (f refl) ∙ ap (λ y. (c, y)) (g refl)
+    by true false f g h = absurd (true≢false (sym h))
+    by false t f g h = absurd (true≢false (sym h))
+
+-- the test is an equivalence
+pub is_pair-equivalence : IsEquivalence is_pair
+is_pair-equivalence = and_equiv (on_equiv (λ (t : ℕ × ℕ). t.0) nat_eq_equiv) (on_equiv (λ (t : ℕ × ℕ). t.1) nat_eq_equiv)
+
+-- the one pair of a list
+pub Has-one : (k q : ℕ × ℕ) → Has (k ∷ []) q → q ≡ k
+Has-one k q h = is_pair-eq q k (only (is_pair q k) h)
+  where
+    only : (t : Bool) → (t || false) ≡ true → t ≡ true
+    only true e = refl
+    only false e = e
+
+pub Has-it : (k : ℕ × ℕ) → Has (k ∷ []) k
+Has-it k = first_passes (is_pair k k) false (is_pair-equivalence.refl k)
+
+-- a table that stays adds what is asked
+pub Adds_refl : (asked xs : List (ℕ × ℕ)) → Adds asked xs xs
+Adds_refl asked xs = record { kept = λ q h. h; only = λ q h. inl h }
+
+pub Adds-same : (asked xs ys : List (ℕ × ℕ)) → ys ≡ xs → Adds asked xs ys
+Adds-same asked xs ys e = subst (Adds asked xs) (sym e) (Adds_refl asked xs)
+
+-- one after another
+pub Adds_trans : (a b xs ys zs : List (ℕ × ℕ)) → Adds a xs ys → Adds b ys zs → Adds (a ++ b) xs zs
+Adds_trans a b xs ys zs f g = record {
+  kept = λ q h. g.kept q (f.kept q h);
+  only = λ q h. elim (g.only q h) [
+    | inl before ↦ elim (f.only q before) [
+      | inl first ↦ inl first
+      | inr asked ↦ inr (Has-append_left a b q asked)
+    ]
+    | inr asked ↦ inr (Has-append_right a b q asked)
+  ];
+}
+
+-- one more pair at the end
+pub Adds-push : (k : ℕ × ℕ) (xs : List (ℕ × ℕ)) → Adds (k ∷ []) xs (xs ++ k ∷ [])
+Adds-push k xs = record { kept = λ q h. Has-append_left xs (k ∷ []) q h; only = λ q h. Has-from_append xs (k ∷ []) q h }
+
+-- a refused command asks nothing
+pub unless_refused-nil : (o : Option Refusal) → unless_refused o [] ≡ []
+unless_refused-nil None = refl
+unless_refused-nil (Some refusal) = refl
