@@ -1,6 +1,6 @@
 -- The columns that lines and sessions demand, one after another, and how many they are.
-use Rattle.std.proofs.Common.{◌≡◌, ◌≢◌, ◌⊎◌, ◌+◌, ◌<◌, ℕ, Bool, true, false, List, [], ◌∷◌, ◌++◌, length, get_or, take, All, refl, sym, ◌∙◌, ap, subst, inl, inr, append-nil, arith}
-use Rattle.std.specs.List.{IsDistinct, flat_map}
+use Rattle.std.proofs.Common.{◌≡◌, ◌≢◌, ◌+◌, ◌<◌, ℕ, Bool, true, false, List, [], ◌∷◌, ◌++◌, length, get_or, take, All, refl, sym, ◌∙◌, ap, subst, inl, inr, append-nil}
+use Rattle.std.specs.List.{IsDistinct}
 use Rattle.std.specs.Set.{is_member, distinct_count}
 use Rattle.std.proofs.lemmas.List.{take_more}
 use Rattle.std.proofs.lemmas.List.Elements.{All-head, All-tail}
@@ -10,7 +10,7 @@ use Rattle.script_text.specs.Numbered.{NumberedLine}
 use Rattle.reply_text.specs.declared.reply.Reply.TheVariants.{Memory}
 use Rattle.reply_text.specs.declared.transcript.ReplyLine.{ReplyLine}
 use Rattle.host_workers.specs.Columns.{is_pair, Has, Adds, Gathers, asked, all_asked, session_asked, AreHeld, AreAllHeld, CountsColumns}
-use Rattle.host_workers.proofs.ColumnLemmas.{Has-nil, Has-append_left, Has-from_append, Adds_trans, is_pair-equivalence}
+use Rattle.host_workers.proofs.ColumnLemmas.{Has-nil, Has-from_append, Adds_trans, is_pair-equivalence}
 
 -- the pairs of the lines up to i, and of the line at i
 all_asked_more : (N i : ℕ) (lines : List NumberedLine) (l : NumberedLine) → i < length lines → l ≡ get_or lines i l

@@ -1,5 +1,5 @@
 -- The terms of an image, one after another.
-use Rattle.std.proofs.Common.{◌≡◌, ◌+◌, ◌<◌, ◌≤◌, ℕ, ℤ, pos, List, [], ◌∷◌, ◌++◌, length, get_or, map, take, drop, replicate, inl, inr, sym, ◌∙◌, ap, subst, arith}
+use Rattle.std.proofs.Common.{◌≡◌, ◌+◌, ◌<◌, ℕ, ℤ, pos, List, [], ◌∷◌, ◌++◌, length, get_or, take, drop, replicate, inl, inr, sym, ◌∙◌, ap, subst}
 use Rattle.std.proofs.lemmas.List.{map_more, map-append, take-append-drop}
 use Rattle.linear_algebra.specs.Vector.{◌⊞◌}
 use Rattle.linear_algebra.specs.Sparse.{single, sparse}
@@ -60,9 +60,9 @@ pub demand_held : (n i : ℕ) (terms : List (ℕ × ℤ)) (t : ℕ × ℤ) (mid 
     → (q : ℕ × ℕ) → Has (demand_of_image n (take (i + 1) terms)) q → Has new q
 demand_held n i terms t mid new within here before last held q h =
     elim (Has-from_append (demand_of_image n (take i terms)) ((n, t.0) ∷ []) q (subst (λ pairs. Has pairs q) (sym (demand_more n i terms t within here)) h)) [
-  | inl earlier ↦ last.kept q (before q earlier)
-  | inr it ↦ subst (Has new) (sym (Has-one (n, t.0) q it)) held
-]
+      | inl earlier ↦ last.kept q (before q earlier)
+      | inr it ↦ subst (Has new) (sym (Has-one (n, t.0) q it)) held
+    ]
 
 -- what is demanded of the first terms is demanded of all
 pub Adds-of_all : (n i : ℕ) (terms : List (ℕ × ℤ)) (old new : List (ℕ × ℕ)) → Adds (demand_of_image n (take i terms)) old new → Adds (demand_of_image n terms) old new

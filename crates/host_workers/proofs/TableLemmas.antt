@@ -1,18 +1,16 @@
 -- The entries of tables, each with a property, and the columns that they hold.
-use Rattle.std.proofs.Common.{◌≡◌, ◌≢◌, ◌⊎◌, ◌+◌, ◌<◌, ◌≤◌, ◌*◌, ◌^◌, ℕ, Bool, true, false, cond, List, [], ◌∷◌, ◌++◌, length, map, All, Option, None, Some, IsSome, is_some, nat_eq, ◌||◌, refl, sym, ◌∙◌, ap, subst, inl, inr, arith}
-use Rattle.std.specs.List.{list_any}
+use Rattle.std.proofs.Common.{◌≡◌, ◌+◌, ◌<◌, ◌≤◌, ◌*◌, ◌^◌, ℕ, Bool, true, false, cond, List, [], ◌∷◌, ◌++◌, length, All, Option, None, Some, IsSome, is_some, nat_eq, ◌||◌, refl, sym, ◌∙◌, ap, subst, arith}
 use Rattle.std.specs.Map.{keys_of, lookup}
 use Rattle.std.specs.Set.{is_member}
 use Rattle.std.proofs.Math.Nat.{pow-zero}
 use Rattle.std.proofs.lemmas.Grind.{pow_more}
 use Rattle.std.proofs.lemmas.Nat.{mul-le}
 use Rattle.std.proofs.lemmas.Bool.{eqb-true}
-use Rattle.std.proofs.lemmas.List.Elements.{All-head, All-tail, All-push}
+use Rattle.std.proofs.lemmas.List.Elements.{All-head, All-tail}
 use Rattle.linear_algebra.specs.Residue.{residue}
 use Rattle.linear_algebra.specs.Vector.{◌⊞◌, ◌⊡◌}
 use Rattle.linear_algebra.specs.Dense.{dense}
 use Rattle.field_table.specs.Residues.{AreResidues}
-use Rattle.quotient_coords.specs.Quotient.{dimension}
 use Rattle.heilbronn_sets.specs.Merel.{merel_matrices}
 use Rattle.heilbronn_sets.specs.Sets.{Matrices}
 use Rattle.hecke_columns.specs.Hecke.{HeckeColumn, IsColumn, AddsColumn}

@@ -11,7 +11,7 @@
 --     bad_script     the bytes that were left are no script: the first line that breaks a rule, and why
 --     nothing        nothing is written with another status
 --   LeavesUnread ..  the streams as they were
-use Rattle.std.specs.Prelude.{◌≡◌, ◌≢◌, ℕ, ◌≤◌, Bool, true, false, List, [], ◌∷◌, Option, None, IfSome, Ok, Err, codes, string_bytes, String}
+use Rattle.std.specs.Prelude.{◌≡◌, ◌≢◌, ℕ, ◌≤◌, Bool, false, List, [], ◌∷◌, Option, IfSome, Ok, Err, codes, string_bytes, String}
 use Rattle.std.specs.Global.{Global}
 use Rattle.std.specs.Io.KnownBytes.{Appends, Keeps, IsAtEnd}
 use Rattle.std.specs.Str.{bytes_eq}
@@ -25,7 +25,7 @@ use Rattle.script_text.specs.Valid.{ScriptText}
 use Rattle.reply_text.specs.declared.transcript.Transcript.{Transcript}
 use Rattle.reply_text.specs.Transcripts.{transcript_text}
 use Rattle.host_workers.specs.declared.status.Status.{Status}
-use Rattle.host_workers.specs.declared.status.Status.TheVariants.{Done, Usage, ReadFault, WriteFault, TooLong, OutOfMemory, BadScript}
+use Rattle.host_workers.specs.declared.status.Status.TheVariants.{Done, Usage, ReadFault, WriteFault, TooLong, BadScript}
 use Rattle.host_workers.specs.declared.status.TheConstants.{MAX_INPUT}
 use Rattle.host_workers.specs.Sessions.{IsSoloTranscript}
 

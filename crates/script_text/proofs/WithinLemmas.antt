@@ -1,6 +1,5 @@
 -- The limits of a command that breaks none.
-use Rattle.std.proofs.Common.{◌≡◌, ℕ, ◌<◌, ◌≤◌, ◌⊎◌, Bool, true, false, not, cond, List, length, Option, Some, None, nat_le, nat_lt, ◌&&◌, inl, inr, arith, sym, ap, ◌∙◌}
-use Rattle.std.proofs.lemmas.Bool.{cases_lt, le-ltb, lt-ltb, cond-true, cond-false}
+use Rattle.std.proofs.Common.{◌≡◌, ◌<◌, ◌≤◌, length, None, arith}
 use Rattle.p1_normal.specs.declared.matrix.TheConstants.{MAX_DET}
 use Rattle.script_text.specs.declared.limits.TheConstants.{MAX_TERMS}
 use Rattle.script_text.specs.declared.word.Word.{Word}

@@ -1,11 +1,9 @@
-use Rattle.std.proofs.Common.{◌≡◌, ℕ, ◌+◌, ◌<◌, ◌∷◌, [], length, take, get_or, refl, sym, ◌∙◌, ap, subst, arith, rules}
+use Rattle.std.proofs.Common.{◌≡◌, ◌+◌, ◌<◌, [], length, get_or, refl, sym, ap, arith, rules}
 use Rattle.std.proofs.lemmas.Bool.{true≢false}
 use Rattle.std.proofs.lemmas.List.{with_items_is}
-use Rattle.field_table.proofs.TableFacts.{listed_prime}
 use Rattle.hecke_columns.specs.Hecke.{AddsColumn}
 use Rattle.heilbronn_sets.specs.Merel.{merel_matrices}
-use Rattle.host_workers.specs.Columns.{Adds, Has}
-use Rattle.host_workers.proofs.ColumnLemmas.{Adds_refl, Adds_trans}
+use Rattle.host_workers.proofs.ColumnLemmas.{Adds_refl}
 use Rattle.host_workers.proofs.ImageLemmas.{no_pair, image_start, image_more, demand_added, demand_held, Adds-of_all}
 use Rattle.host_workers.proofs.image.image_of.Goals as goal
 

@@ -1,10 +1,5 @@
-use Rattle.std.proofs.Common.{◌≡◌, ℕ, ◌∷◌, [], length, sym, ◌∙◌, ap, subst, arith, rules}
-use Rattle.indexmap.specs.IndexMap.{keys}
-use Rattle.quotient_coords.specs.Quotient.{dimension}
-use Rattle.heilbronn_sets.specs.Sets.{Matrices}
-use Rattle.hecke_columns.specs.Hecke.{HeckeColumn}
-use Rattle.host_workers.specs.Columns.{Has}
-use Rattle.host_workers.specs.Tables.{IsColumnAt, merel}
+use Rattle.std.proofs.Common.{length, sym, ◌∙◌, ap, rules}
+use Rattle.host_workers.specs.Tables.{IsColumnAt}
 use Rattle.host_workers.proofs.TableLemmas.{IsColumn-at, AddsColumn-at, Has-from_lookup}
 use Rattle.host_workers.proofs.column_table.ColumnTable.add_column.Goals as goal
 

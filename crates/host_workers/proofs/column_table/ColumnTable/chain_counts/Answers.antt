@@ -1,5 +1,4 @@
-use Rattle.std.proofs.Common.{◌≡◌, ◌<◌, ◌≤◌, ◌+◌, ◌*◌, ◌^◌, ℕ, length, sym, ap, ◌∙◌, subst, arith}
-use Rattle.heilbronn_sets.specs.Merel.{merel_matrices}
+use Rattle.std.proofs.Common.{ap, ◌∙◌, arith}
 use Rattle.heilbronn_sets.specs.Sets.{Matrices}
 use Rattle.host_workers.proofs.TableLemmas.{few_matrices}
 use Rattle.host_workers.proofs.column_table.ColumnTable.chain_counts.Goals as goal

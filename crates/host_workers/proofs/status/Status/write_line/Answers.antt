@@ -1,4 +1,4 @@
-use Rattle.host_workers.proofs.StatusLines.{whole_after_flush, part_after_flush, part_of_text}
+use Rattle.host_workers.proofs.StatusLines.{whole_after_flush, part_after_flush}
 use Rattle.host_workers.proofs.status.Status.write_line.Goals as goal
 
 pub returns-clause-line : goal.returns-clause-line
