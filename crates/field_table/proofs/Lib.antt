@@ -3,3 +3,4 @@ pub mod Gathering
 pub mod Lists
 pub mod Quotients
 pub mod TableFacts
+pub mod Places

@@ -1,17 +1,18 @@
 -- Terms as combinations: the first term that names no point, the places of the symbols, and answers about the combination.
-use Rattle.std.proofs.Common.{◌≡◌, ◌≢◌, ◌+◌, ◌<◌, ◌≤◌, ℕ, ℤ, pos, true, false, not, cond, List, [], ◌∷◌, ◌++◌, length, get_or, take, All, Some, None, nat_lt, refl, sym, ◌∙◌, ap, subst, inl, inr, below_more, eq-eqb, arith}
+use Rattle.std.proofs.Common.{◌≡◌, ◌≢◌, ◌+◌, ◌<◌, ◌≤◌, ℕ, ℤ, pos, true, false, not, cond, List, [], ◌∷◌, ◌++◌, length, get_or, take, All, Some, None, nat_lt, refl, sym, ◌∙◌, ap, subst, below_more, eq-eqb, arith}
 use Rattle.std.specs.List.{position_or_len}
-use Rattle.std.proofs.lemmas.Bool.{cases_lt, le-ltb, lt-ltb, ne_eqb}
+use Rattle.std.proofs.lemmas.Bool.{le-ltb, lt-ltb, ne_eqb}
 use Rattle.std.proofs.lemmas.List.{map_more}
 use Rattle.std.proofs.lemmas.List.Sums.{position_or_len_is}
-use Rattle.std.proofs.lemmas.List.Elements.{All-get_or, All-from_get_or, All-map}
+use Rattle.std.proofs.lemmas.List.Elements.{All-map}
 use Rattle.linear_algebra.specs.Vector.{Vector, EndsBefore}
 use Rattle.linear_algebra.specs.Sparse.{sparse, IsCombo}
 use Rattle.linear_algebra.specs.Coordinates.{IsTrace}
-use Rattle.linear_algebra.proofs.SparseLaws.{sparse_at, EndsBefore-sparse, some_residue}
+use Rattle.linear_algebra.proofs.SparseLaws.{EndsBefore-sparse}
 use Rattle.field_table.specs.Integers.{residue_of}
 use Rattle.field_table.specs.Residues.{HasResidues}
 use Rattle.field_table.specs.Terms.{residue_terms, HasPlacesBelow}
+use Rattle.field_table.proofs.Places.{HasPlacesBelow-from_vector}
 use Rattle.p1_normal.specs.Points.{common_divisor, reduced, number}
 use Rattle.quotient_coords.specs.Quotient.{AreCoordinates, HasCoordinates, HasTrace}
 use Rattle.script_text.specs.declared.term.Term.{Term}
@@ -66,14 +67,6 @@ pub unnamed_is : (N : ℕ) (terms : List Term) (i j : ℕ) → NameUpTo N terms 
 unnamed_is N terms i j h l e same =
     ap unnamed (first_unnamed-some N terms i h l (ne_eqb (common_divisor N (reduced N (get_or terms i no_term).u (get_or terms i no_term).v)) 1 e))
     ∙ ap (λ k. Some (refusals.NotSymbol k)) (sym same)
-
--- a rising list of residues without zeros whose vector has length d has its places below d
-pub HasPlacesBelow-from_vector : (p d : ℕ) (ts : List (ℕ × ℕ)) → IsCombo ts → HasResidues p ts → EndsBefore d (sparse p ts) → HasPlacesBelow d ts
-HasPlacesBelow-from_vector p d ts combo residues ends = All-from_get_or (λ t. t.0 < d) ts (0, 0) (λ i l. elim (cases_lt (get_or ts i (0, 0)).0 d) [
-  | inl below ↦ below
-  | inr above ↦ absurd (some_residue p (get_or ts i (0, 0)).1 (All-get_or (λ t. 0 < t.1) ts i (0, 0) l combo.nonzero) (All-get_or (λ t. t.1 < p) ts i (0, 0) l residues)
-      (sym (sparse_at p ts combo i l) ∙ ends (get_or ts i (0, 0)).0 above))
-])
 
 -- the residues of terms stand at the places of the terms
 pub places_of_residues : (p d : ℕ) (ts : List (ℕ × ℤ)) → All (λ t. t.0 < d) ts → HasPlacesBelow d (residue_terms p ts)

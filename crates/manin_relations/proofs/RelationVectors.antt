@@ -1,16 +1,14 @@
 -- Relations as vectors and as lists of terms.
-use Rattle.std.proofs.Common.{◌≡◌, ◌≢◌, ◌+◌, ◌*◌, ◌%◌, ◌<◌, ℕ, Bool, true, false, cond, List, [], ◌∷◌, length, get_or, map, nat_eq, refl, sym, ◌∙◌, ap, subst, inl, inr, arith}
+use Rattle.std.proofs.Common.{◌≡◌, ◌+◌, ◌*◌, ◌%◌, ◌<◌, ℕ, Bool, true, false, cond, List, [], ◌∷◌, length, map, nat_eq, refl, sym, ◌∙◌, ap, subst}
 use Rattle.std.specs.Prelude.{count_by}
-use Rattle.std.proofs.Math.Nat.{zero-mod, mod-mod, mod-eq_of_lt}
-use Rattle.std.proofs.lemmas.Bool.{cases_lt}
-use Rattle.std.proofs.lemmas.List.Elements.{All-get_or, All-from_get_or, All-map}
+use Rattle.std.proofs.Math.Nat.{mod-mod}
+use Rattle.std.proofs.lemmas.List.Elements.{All-map}
 use Rattle.linear_algebra.specs.Residue.{residue, ◌⊕◌}
 use Rattle.linear_algebra.specs.Vector.{EndsBefore}
-use Rattle.linear_algebra.specs.Sparse.{single, sparse, IsCombo}
-use Rattle.linear_algebra.proofs.ResidueLaws.{same_residue, mod_from_residue, values}
-use Rattle.linear_algebra.proofs.SparseLaws.{sparse_nil, sparse-cons, sparse_at, EndsBefore-sparse}
-use Rattle.field_table.specs.Residues.{HasResidues}
-use Rattle.field_table.specs.Terms.{HasPlacesBelow}
+use Rattle.linear_algebra.specs.Sparse.{single, sparse}
+use Rattle.linear_algebra.proofs.ResidueLaws.{same_residue, values}
+use Rattle.linear_algebra.proofs.SparseLaws.{sparse_nil, sparse-cons, EndsBefore-sparse}
+use Rattle.field_table.proofs.Places.{HasPlacesBelow-from_vector}
 use Rattle.p1_normal.specs.Points.{symbols}
 use Rattle.p1_normal.specs.Relations.{relation_symbols}
 use Rattle.manin_relations.specs.Relations.{relation, IsSum, IsRelation}
@@ -44,22 +42,6 @@ pub EndsBefore-relation : (p N k : ℕ) → k < 2 * length (symbols N) → EndsB
 EndsBefore-relation p N k l j above =
     ap (λ v. v j) (sym (relation_ones p 1 N k refl))
     ∙ EndsBefore-sparse p (length (symbols N)) (ones 1 (relation_symbols N k)) (All-map (λ t. t.0 < length (symbols N)) (λ k. (k, 1)) (relation_symbols N k) (relation_symbols-lt N k l)) j above
-
--- a residue from 1 to p - 1 is not 0
-some_residue : (p a : ℕ) → 0 < a → a < p → residue p a ≢ residue p 0
-some_residue p a l u e =
-    let h : a % p ≡ 0 % p = mod_from_residue p a 0 e in
-    let small : a % p ≡ a = mod-eq_of_lt u in
-    let none : 0 % p ≡ 0 = zero-mod p in
-    omega arith
-
--- a rising list of residues without zeros whose vector has length d has its places below d
-HasPlacesBelow-from_vector : (p d : ℕ) (ts : List (ℕ × ℕ)) → IsCombo ts → HasResidues p ts → EndsBefore d (sparse p ts) → HasPlacesBelow d ts
-HasPlacesBelow-from_vector p d ts combo residues ends = All-from_get_or (λ t. t.0 < d) ts (0, 0) (λ i l. elim (cases_lt (get_or ts i (0, 0)).0 d) [
-  | inl below ↦ below
-  | inr above ↦ absurd (some_residue p (get_or ts i (0, 0)).1 (All-get_or (λ t. 0 < t.1) ts i (0, 0) l combo.nonzero) (All-get_or (λ t. t.1 < p) ts i (0, 0) l residues)
-      (sym (sparse_at p ts combo i l) ∙ ends (get_or ts i (0, 0)).0 above))
-])
 
 -- the sum of the symbols of relation k, each with the residue of 1, is relation k
 pub IsRelation-from_sum : (N p k : ℕ) (ks : List ℕ) (c : List (ℕ × ℕ)) → k < 2 * length (symbols N) → relation_symbols N k ≡ ks → IsSum p (ones (1 % p) ks) c → IsRelation N p k c

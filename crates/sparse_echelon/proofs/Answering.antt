@@ -1,10 +1,8 @@
 -- What the stored form answers of the given rows.
-use Rattle.std.proofs.Common.{◌≡◌, ◌≢◌, ◌⊎◌, ◌<◌, ◌≤◌, ◌↔◌, ℕ, List, [], length, get_or, Option, Some, None, MatchOption, IsTrue, refl, sym, ◌∙◌, ap, subst, inl, inr, arith}
+use Rattle.std.proofs.Common.{◌≡◌, ◌≢◌, ◌<◌, ◌↔◌, ℕ, List, [], length, get_or, Option, Some, None, MatchOption, IsTrue, refl, sym, ◌∙◌, ap, subst, arith}
 use Rattle.std.specs.Option.{is_some}
 use Rattle.std.proofs.Math.ListN.{length-map}
-use Rattle.std.proofs.lemmas.Bool.{cases_lt}
-use Rattle.std.proofs.lemmas.List.Elements.{All-get_or, All-from_get_or}
-use Rattle.field_table.specs.Residues.{HasResidues}
+use Rattle.std.proofs.lemmas.List.Elements.{All-get_or}
 use Rattle.field_table.specs.Terms.{HasPlacesBelow}
 use Rattle.field_table.proofs.TableFacts.{listed_prime}
 use Rattle.linear_algebra.specs.Residue.{residue}
@@ -13,11 +11,10 @@ use Rattle.linear_algebra.specs.Vector.{Vector, ◌⊞◌, ◌⊡◌, zeros, com
 use Rattle.linear_algebra.specs.Span.{Each, row}
 use Rattle.linear_algebra.specs.Echelon.{IsPivot, IsTopBasis, remainder}
 use Rattle.linear_algebra.specs.Dense.{dense, dense_rows}
-use Rattle.linear_algebra.specs.Sparse.{sparse, IsCombo}
+use Rattle.linear_algebra.specs.Sparse.{sparse}
 use Rattle.linear_algebra.specs.Coordinates.{IsReduction, IsTrace}
 use Rattle.linear_algebra.proofs.Vectors.{one-scale, zeros-plus}
-use Rattle.linear_algebra.proofs.DenseLaws.{EndsBefore-dense}
-use Rattle.linear_algebra.proofs.SparseLaws.{sparse_at, some_residue, EndsBefore-sparse, row-sparse_rows}
+use Rattle.linear_algebra.proofs.SparseLaws.{EndsBefore-sparse, row-sparse_rows}
 use Rattle.linear_algebra.proofs.Spans.{Each-rows, InSpan-trans}
 use Rattle.linear_algebra.proofs.Pivots.{pivot_is_lead, independent_from_top}
 use Rattle.linear_algebra.proofs.Elimination.{eliminated_all, trace_of_remainder}
@@ -27,16 +24,6 @@ use Rattle.sparse_echelon.specs.Leads.{lead, at_leads}
 use Rattle.sparse_echelon.specs.Stored.{IsEchelon}
 use Rattle.sparse_echelon.specs.declared.stored.Stored.{Stored}
 use Rattle.sparse_echelon.proofs.Steps.{length-dense_rows}
-
--- a rising list of residues other than 0 that is the vector of a list of numbers has its places in the list
-pub places_within : (p : ℕ) (ts : List (ℕ × ℕ)) (xs : List ℕ) → IsCombo ts → HasResidues p ts → sparse p ts ≡ dense p xs → HasPlacesBelow (length xs) ts
-places_within p ts xs c residues same = All-from_get_or (λ t. t.0 < length xs) ts (0, 0) (λ j l. at j l (cases_lt (get_or ts j (0, 0)).0 (length xs)))
-  where
-    at : (j : ℕ) → j < length ts → ((get_or ts j (0, 0)).0 < length xs) ⊎ (length xs ≤ (get_or ts j (0, 0)).0) → (get_or ts j (0, 0)).0 < length xs
-    at j l (inl within) = within
-    at j l (inr past) =
-        absurd (some_residue p (get_or ts j (0, 0)).1 (All-get_or (λ t. 0 < t.1) ts j (0, 0) l c.nonzero) (All-get_or (λ t. t.1 < p) ts j (0, 0) l residues)
-        (sym (sparse_at p ts c j l) ∙ ap (λ v. v (get_or ts j (0, 0)).0) same ∙ EndsBefore-dense p xs (get_or ts j (0, 0)).0 past))
 
 module _ (s : System) (stored : Stored) (h : IsEchelon s stored) where
   -- the characteristic is prime
