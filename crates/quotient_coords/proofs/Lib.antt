@@ -6,4 +6,5 @@ pub mod Lifting
 pub mod Sums
 pub mod Reading
 pub mod Spaces
+pub mod SymbolRows
 pub mod Unique

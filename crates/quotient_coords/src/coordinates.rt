@@ -1,4 +1,4 @@
-ghost use Rattle.std.specs.Prelude.{◌≡◌, ◌<◌, ℕ, All, IfOk, length, slice_index};
+ghost use Rattle.std.specs.Prelude.{◌≡◌, ◌<◌, ◌^◌, ℕ, All, IfOk, length, slice_index};
 ghost use Rattle.field_table.specs.Residues.{AreResidues, HasResidues};
 ghost use Rattle.field_table.specs.Terms.{HasPlacesBelow};
 ghost use Rattle.linear_algebra.specs.Coordinates.{at_places};
@@ -18,6 +18,7 @@ pub fn entries(
 ) -> Result<Vec<u32>, AllocError>
     requires rising { IsCombo terms.now }
     ensures count { IfOk result (λ v. length v.items ≡ length free.now) }
+    ensures few { IfOk result (λ v. length v.items < 2 ^ 32) }
     ensures entries { IfOk result (λ v. (p j : ℕ) → j < length free.now →
         residue p (slice_index v.items j) ≡ sparse p terms.now (slice_index free.now j)) }
     ensures residues { IfOk result (λ v. (p : ℕ) → 0 < p → HasResidues p terms.now → AreResidues p v.items) }

@@ -6,8 +6,9 @@ ghost use Rattle.p1_normal.specs.Points.{symbols};
 ghost use Rattle.quotient_coords.specs.Quotient.{HasCoordinates, HasTrace, IsCertificate, dimension, free_symbols, lifted};
 
 use crate::certificate::{Certificate, adds_up, is_in_range};
-use crate::coordinates::{entries, lifted_terms};
+use crate::coordinates::lifted_terms;
 use crate::free_symbols::FreeSymbols;
+use crate::symbol_table::{combined, symbol_rows};
 use field_table::{Combo, Field, OutOfMemory, Residues};
 use manin_relations::Relations;
 use p1_normal::Level;
@@ -24,6 +25,7 @@ pub struct Space {
     field: Field,
     echelon: Echelon,
     free: FreeSymbols,
+    rows: Vec<Combo>,
 }
 
 impl Model for Space {
@@ -31,26 +33,32 @@ impl Model for Space {
 
     ghost Value = { Ground };
 
-    ghost use Rattle.quotient_coords.specs.Tables.{IsSpace};
+    ghost use Rattle.std.specs.Prelude.{length};
+    ghost use Rattle.p1_normal.specs.Points.{symbols};
+    ghost use Rattle.quotient_coords.specs.Tables.{AreSymbolRows, IsSpace};
 
     ghost view = { λ s. record { level = s.level; characteristic = s.field } };
 
-    ghost invariant = { λ s. IsSpace s.level s.field s.echelon s.free };
+    ghost invariant = { λ s. IsSpace s.level s.field s.echelon s.free
+        × AreSymbolRows s.level s.field (length (symbols s.level)) s.rows.items };
 }
 
 impl Space {
-    /// Eliminates the relations of the level over the field.
+    /// Eliminates the relations of the level over the field, and makes a table of the coordinates of each
+    /// symbol, which takes a reduction for each.
     pub fn open(alloc: Global, level: Level, field: Field) -> Result<Space, OutOfMemory>
         ensures { IfOk result (λ s. s ≡ record { level = level; characteristic = field }) }
     {
         let relations = Relations::build(alloc, &level, field)?;
         let echelon = eliminate(alloc, field, relations.rows(), level.count())?;
         let free = FreeSymbols::of(alloc, &echelon, level.count())?;
+        let rows = symbol_rows(alloc, &echelon, &free, level.count())?;
         Ok(Space {
             level,
             field,
             echelon,
             free,
+            rows,
         })
     }
 
@@ -86,15 +94,20 @@ impl Space {
     }
 
     /// The coordinates of a combination of symbols: the one list of d residues by which the combination
-    /// of the free symbols is congruent to it. Costs a pass over m numbers, and one more for each term
-    /// at a bound symbol.
+    /// of the free symbols is congruent to it. Costs a pass over d numbers, and one over the coordinates
+    /// other than 0 of each symbol that a term names.
     pub fn coords(&self, alloc: Global, combo: &Combo) -> Result<Residues, OutOfMemory>
         requires places { HasPlacesBelow (length (symbols self.now.level)) combo.now }
         requires residues { HasResidues self.now.characteristic combo.now }
         ensures { IfOk result (HasCoordinates self.now.level self.now.characteristic combo.now) }
     {
-        let reduced = self.echelon.reduce(alloc, combo)?;
-        Ok(Residues::of(entries(alloc, &self.free, reduced.terms())?))
+        Ok(Residues::of(combined(
+            alloc,
+            self.field,
+            self.rows.as_slice(),
+            combo.terms(),
+            self.dim(),
+        )?))
     }
 
     /// The combination of the free symbols with these d coefficients. Costs d steps.
@@ -109,8 +122,8 @@ impl Space {
     }
 
     /// The coordinates of a combination, and the one list of coefficients over the kept relations by
-    /// which these add up to the combination less that of the free symbols. Costs a pass over m and one
-    /// over 2 m numbers, and one more of each for each term at a bound symbol.
+    /// which these add up to the combination less that of the free symbols. Costs what `coords` costs, a
+    /// pass over 2 m numbers, and one more over these for each term at a bound symbol.
     pub fn certify(&self, alloc: Global, combo: &Combo) -> Result<Certificate, OutOfMemory>
         requires places { HasPlacesBelow (length (symbols self.now.level)) combo.now }
         requires residues { HasResidues self.now.characteristic combo.now }

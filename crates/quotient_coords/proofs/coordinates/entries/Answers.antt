@@ -1,4 +1,4 @@
-use Rattle.std.proofs.Common.{◌≡◌, ◌+◌, ◌∙◌, ap, sym, subst, arith, List, ℕ, length, get_or, refl, rules}
+use Rattle.std.proofs.Common.{◌+◌, ap, sym, subst, arith, refl, rules}
 use Rattle.quotient_coords.proofs.Entries.{AreEntries, number_at_term, entries_none, entries_skip, entries_put}
 use Rattle.quotient_coords.proofs.coordinates.entries.Goals as goal
 use Rattle.quotient_coords.proofs.coordinates.entries.Goals.{in-Some, in_default}
