@@ -2,14 +2,19 @@
 --   is_pair a b                  the test that two pairs are one
 --   Has pairs q                  q is one of the pairs
 --   demand_of_image n ts         the pairs of an image: those of the symbols of its terms, whatever their coefficients
---   asked_of N c                 the pairs that a command demands, where nothing refuses it; `image` alone demands any
---   asked N text                 the pairs that a command line demands
+--   demand N c                   the pairs that a command demands: only `image` demands any
+--   unless_refused o pairs       the pairs, or none where there is a refusal
+--   asked_of N c                 the same, where nothing refuses the command; else none
+--   asked_by N read              those of what a line is read as
+--   asked N text                 those of a command line
 --   all_asked N lines            those of all lines
 --   Adds asked old new           each pair of `old` is in `new`, and what else is in `new` is asked
 --   Gathers asked reply old new  the same, and each pair that is asked is in `new`, but where the reply is want of memory
 --   session_asked N sessions     those of all sessions
 --   AreHeld N pairs lines replies
 --                                the pairs that a line demands are there, where its reply is not want of memory
+--   AreAllHeld N pairs sessions replies
+--                                the same of all sessions
 --   CountsColumns N sessions replies k
 --                                k is the number of some distinct pairs: each is demanded by a line, and each that is demanded by a line whose
 --                                reply is not want of memory is there
@@ -36,12 +41,16 @@ Has pairs q = is_member is_pair pairs q ≡ true
 abbrev pub demand_of_image : ℕ → List (ℕ × ℤ) → List (ℕ × ℕ)
 demand_of_image n terms = map (λ t. (n, t.0)) terms
 
+abbrev pub demand : ℕ → Command → List (ℕ × ℕ)
+demand N (commands.Image n terms) = demand_of_image n (symbol_terms N terms)
+demand N command = []
+
 abbrev pub unless_refused : Option Refusal → List (ℕ × ℕ) → List (ℕ × ℕ)
 unless_refused None pairs = pairs
 unless_refused (Some refusal) pairs = []
 
 abbrev pub asked_of : ℕ → Command → List (ℕ × ℕ)
-asked_of N (commands.Image n terms) = unless_refused (refusal_of N (commands.Image n terms)) (demand_of_image n (symbol_terms N terms))
+asked_of N (commands.Image n terms) = unless_refused (refusal_of N (commands.Image n terms)) (demand N (commands.Image n terms))
 asked_of N command = []
 
 abbrev pub asked_by : ℕ → Result Command CommandFault → List (ℕ × ℕ)

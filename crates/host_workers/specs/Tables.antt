@@ -1,5 +1,6 @@
 -- What a table of columns keeps.
 --   Gathered               a level with a characteristic, and the pairs (n, symbol) of columns that were gathered
+--   merel n                Merel's set of determinant n
 --   AreMerelSets sets      each set stands at its determinant, and is Merel's set of it
 --   IsColumnAt N p e       a column stands at its pair (n, symbol), and is one of the level N and the characteristic p
 --   AreColumns N p columns each entry is such a column
