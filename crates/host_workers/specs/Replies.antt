@@ -1,10 +1,15 @@
 -- What a command is answered, at a level N and a characteristic p.
 --   symbol_of N t            the symbol that the pair of a term names
+--   names_point N t          the pair of a term names a point
 --   first_unnamed N ts       the place, from 0, of the first term whose pair names no point
+--   symbol_terms N ts        the terms, with the number of its symbol in the stead of each pair
 --   combination N p ts       the combination of the terms: each symbol by its number, each coefficient by its residue
---   uncoprime N n            the refusal of a number n of matrices' determinant that is not coprime to N
+--   pair u v                 the pair of a command as a term
+--   unnamed o                the refusal of the term at this place, if there is one
+--   uncoprime N n            the refusal of a determinant n that is not coprime to N
 --   first_of a b             the first of two refusals that applies
 --   refusal_of N c           the first refusal that applies to a command whose line breaks no rule and no limit
+--   UnlessRefused o A reply  the reply is the refusal, or A holds where there is none
 --   IsAnswer N p c reply     the reply answers the command, where nothing refuses it
 --   IsReplyTo N p read reply the reply to what a line is read as: the first refusal, else the answer
 --   IsReply N p es text r    the reply to a command line, after the history es of accepted splits
