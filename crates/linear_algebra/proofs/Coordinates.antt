@@ -1,13 +1,14 @@
 -- Each vector has its coordinates on the free places, in one way.
-use Rattle.std.proofs.Common.{◌≡◌, ◌≢◌, ◌⊎◌, ◌+◌, ◌<◌, ◌≤◌, ℕ, zero, suc, List, length, get_or, map, sym, ◌∙◌, ap, subst, inl, inr, arith}
-use Rattle.std.proofs.Math.Decide.{ℕ_discrete}
+use Rattle.std.proofs.Common.{◌≡◌, ◌≢◌, ◌⊎◌, ◌+◌, ◌<◌, ◌≤◌, ℕ, List, [], ◌∷◌, length, get_or, take, map, sym, ◌∙◌, ap, subst, inl, inr, arith}
 use Rattle.std.proofs.Math.ListN.{length-map}
 use Rattle.std.proofs.lemmas.Bool.{cases_lt}
+use Rattle.std.proofs.lemmas.List.{map-append, take_more, length-take-le}
 use Rattle.linear_algebra.specs.Residue.{Residue, residue}
-use Rattle.linear_algebra.specs.Vector.{Vector, ◌⊞◌, ◌⊡◌, zeros, EndsBefore}
+use Rattle.linear_algebra.specs.Vector.{Vector, ◌⊞◌, ◌⊡◌, zeros, combination, EndsBefore}
 use Rattle.linear_algebra.specs.Span.{Each, row, Congruent}
 use Rattle.linear_algebra.specs.Coordinates.{IsBound, IsReduction, unit, at_places, free_places, IsCoordinates}
-use Rattle.linear_algebra.proofs.Rows.{row-map, combination_at, combination_vanishes, combination_same}
+use Rattle.linear_algebra.proofs.Rows.{row-map, combination_last, combination_at, combination_vanishes, combination_same}
+use Rattle.linear_algebra.proofs.Rising.{rising_apart}
 use Rattle.linear_algebra.proofs.Pivots.{lead_or_not}
 use Rattle.linear_algebra.proofs.SparseLaws.{single_at, single_elsewhere}
 use Rattle.linear_algebra.proofs.Dimension.{trim, combination-trim, EndsBefore-trim}
@@ -26,26 +27,6 @@ unit_at {p} k = single_at p k 1
 pub unit_elsewhere : {p : ℕ} (k i : ℕ) → k ≢ i → unit {p = p} k i ≡ residue p 0
 unit_elsewhere {p} k i n = single_elsewhere p k 1 i n
 
--- numbers that rise step by step rise
-rising_from_steps : (ks : List ℕ) → IsStrictlyIncreasing ks → (i j : ℕ) → i < j → j < length ks → get_or ks i 0 < get_or ks j 0
-rising_from_steps ks s i zero l u = absurd (omega arith)
-rising_from_steps ks s i (suc j) l u = by_place (ℕ_discrete i j) (rising_from_steps ks s i j)
-  where
-    step : get_or ks j 0 < get_or ks (suc j) 0
-    step = subst (λ m. get_or ks j 0 < get_or ks m 0) (let e : j + 1 ≡ suc j = omega arith in e) (s j (omega arith))
-
-    by_place : Dec (i ≡ j) → (i < j → j < length ks → get_or ks i 0 < get_or ks j 0) → get_or ks i 0 < get_or ks (suc j) 0
-    by_place (yes same) smaller = subst (λ m. get_or ks m 0 < get_or ks (suc j) 0) (sym same) step
-    by_place (no other) smaller = omega (arith, smaller (omega arith) (omega arith), step)
-
--- places that rise differ
-pub places_differ : (ks : List ℕ) → IsStrictlyIncreasing ks → (i j : ℕ) → i < length ks → j < length ks → i ≢ j → get_or ks i 0 ≢ get_or ks j 0
-places_differ ks s i j l u n e = by_order (cases_lt i j)
-  where
-    by_order : (i < j) ⊎ (j ≤ i) → ⊥
-    by_order (inl v) = let w : get_or ks i 0 < get_or ks j 0 = rising_from_steps ks s i j v u in omega arith
-    by_order (inr v) = let w : get_or ks j 0 < get_or ks i 0 = rising_from_steps ks s j i (omega arith) l in omega arith
-
 -- row j of the unit vectors at the places
 row-unit : {p : ℕ} (ks : List ℕ) (j : ℕ) → j < length ks → row (map (unit {p = p}) ks) j ≡ unit (get_or ks j 0)
 row-unit ks j l = row-map unit ks j 0 l
@@ -54,7 +35,17 @@ row-unit ks j l = row-map unit ks j 0 l
 pub at_places_at : {p : ℕ} (ks : List ℕ) (c : Vector p) → IsStrictlyIncreasing ks → (j : ℕ) → j < length ks → at_places ks c (get_or ks j 0) ≡ c j
 at_places_at {p} ks c s j l = combination_at c (map unit ks) (get_or ks j 0) j (subst (λ n. j < n) (sym (length-map ks unit)) l)
     (ap (λ v. v (get_or ks j 0)) (row-unit ks j l) ∙ unit_at (get_or ks j 0))
-    (λ i u n. let w : i < length ks = subst (λ m. i < m) (length-map ks unit) u in ap (λ v. v (get_or ks j 0)) (row-unit ks i w) ∙ unit_elsewhere (get_or ks i 0) (get_or ks j 0) (places_differ ks s i j w l n))
+    (λ i u n. let w : i < length ks = subst (λ m. i < m) (length-map ks unit) u in ap (λ v. v (get_or ks j 0)) (row-unit ks i w) ∙ unit_elsewhere (get_or ks i 0) (get_or ks j 0) (rising_apart ks s i j w l n))
+
+-- one more place
+pub at_places-more : {p : ℕ} (ks : List ℕ) (c : Vector p) (j : ℕ) → j < length ks
+    → at_places (take (j + 1) ks) c ≡ at_places (take j ks) c ⊞ (c j ⊡ unit (get_or ks j 0))
+at_places-more {p} ks c j l =
+    let sized : length (map (unit {p = p}) (take j ks)) ≡ j = length-map (take j ks) unit ∙ length-take-le j ks (omega arith) in
+    ap (λ xs. combination c (map unit xs)) (take_more ks j 0 l)
+    ∙ ap (combination c) (map-append unit (take j ks) (get_or ks j 0 ∷ []))
+    ∙ combination_last c (map unit (take j ks)) (unit (get_or ks j 0))
+    ∙ ap (λ n. combination c (map unit (take j ks)) ⊞ (c n ⊡ unit (get_or ks j 0))) sized
 
 -- and is 0 at the other places
 pub at_places_elsewhere : {p : ℕ} (ks : List ℕ) (c : Vector p) (k : ℕ) → ((j : ℕ) → j < length ks → get_or ks j 0 ≢ k) → at_places ks c k ≡ residue p 0

@@ -1,9 +1,9 @@
 -- What a loop over entries says of vectors.
-use Rattle.std.proofs.Common.{◌≡◌, ◌+◌, ◌*◌, ◌%◌, ◌<◌, ◌≤◌, ℕ, List, [], length, refl, get_or, ◌∙◌, sym, ap, arith, inl, inr, ◌⊎◌, All}
+use Rattle.std.proofs.Common.{◌≡◌, ◌+◌, ◌*◌, ◌%◌, ◌<◌, ◌≤◌, ℕ, List, [], length, replicate, refl, get_or, ◌∙◌, sym, ap, arith, inl, inr, ◌⊎◌, All}
 use Rattle.std.proofs.lemmas.List.Elements.{All-from_get_or, All-get_or}
 use Rattle.std.proofs.Math.Nat.{mod-mod, mul-zero, mod-eq_of_lt}
 use Rattle.std.proofs.lemmas.Bool.{cases_lt}
-use Rattle.std.proofs.lemmas.List.{get_or_past}
+use Rattle.std.proofs.lemmas.List.{get_or_past, get_or-replicate, length-replicate}
 use Rattle.linear_algebra.specs.Residue.{residue, ◌⊕◌, ◌⊗◌}
 use Rattle.linear_algebra.specs.Vector.{◌⊞◌, ◌⊡◌, zeros, EndsBefore}
 use Rattle.linear_algebra.specs.Span.{row}
@@ -66,6 +66,10 @@ dense-zeros p xs each = λ i k. ap (residue p) (at k (cases_lt k (length xs))) i
     at : (k : ℕ) → (k < length xs) ⊎ (length xs ≤ k) → get_or xs k 0 ≡ 0
     at k (inl u) = each k u
     at k (inr u) = get_or_past xs k 0 u
+
+-- so a list of zeros is 0
+pub dense-replicate : (p n : ℕ) → dense p (replicate n 0) ≡ zeros
+dense-replicate p n = dense-zeros p (replicate n 0) (λ k l. get_or-replicate n k 0 0 (omega (arith, length-replicate {A = ℕ} n 0)))
 
 -- row j of the lists as vectors
 pub row-dense_rows : (p : ℕ) (rows : List (List ℕ)) (j : ℕ) → j < length rows → row (dense_rows p rows) j ≡ dense p (get_or rows j [])

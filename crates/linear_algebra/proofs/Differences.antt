@@ -89,6 +89,16 @@ opposite-mul {p} positive a b = opposite-times positive (a ⊗ b) ∙ sym (Resid
 pub opposite-zero : {p : ℕ} → 0 < p → opposite (residue p 0) ≡ residue p 0
 opposite-zero {p} positive = opposite-times positive (residue p 0) ∙ ResidueLaws.mul_comm (residue p (p - 1)) (residue p 0) ∙ ResidueLaws.zero-mul (residue p (p - 1))
 
+-- the opposite of a sum
+pub opposite-add : {p : ℕ} → 0 < p → (a b : Residue p) → opposite (a ⊕ b) ≡ opposite a ⊕ opposite b
+opposite-add {p} positive a b = opposite-times positive (a ⊕ b) ∙ ResidueLaws.mul-add (residue p (p - 1)) a b
+    ∙ sym (ap (λ x. x ⊕ opposite b) (opposite-times positive a) ∙ ap (λ x. residue p (p - 1) ⊗ a ⊕ x) (opposite-times positive b))
+
+-- what is taken from 0
+pub zero-sub : {p : ℕ} (a : Residue p) → residue p 0 ⊖ a ≡ opposite a
+unfolding ◌⊖◌
+zero-sub a = ResidueLaws.zero-add (opposite a)
+
 -- the opposite of a residue below p, as code computes it
 pub opposite-residue : (p c : ℕ) → c < p → opposite (residue p c) ≡ residue p (p - c)
 opposite-residue p c l = ResidueLaws.same_residue (opposite (residue p c)) (residue p (p - c)) (simp (ResidueLaws.values, ResidueLaws.value-opposite) (rw (mod-eq_of_lt l) refl))

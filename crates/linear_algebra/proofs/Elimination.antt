@@ -12,7 +12,7 @@ use Rattle.linear_algebra.specs.Prime.{IsPrime}
 use Rattle.linear_algebra.specs.Vector.{Vector, ◌⊞◌, ◌⊡◌, zeros, tail, combination, minus}
 use Rattle.linear_algebra.specs.Span.{Each, none, more, row, InSpan}
 use Rattle.linear_algebra.specs.Echelon.{IsReducedFromTop, IsTopBasis, remainder}
-use Rattle.linear_algebra.specs.Coordinates.{unit, IsKept, IsKeptList, IsOverKept, IsTrace}
+use Rattle.linear_algebra.specs.Coordinates.{unit, IsKept, IsKeptList, IsOverKept, AreKeptCoefficients}
 use Rattle.linear_algebra.specs.Elimination.{IsEliminated}
 use Rattle.linear_algebra.proofs.ResidueLaws
 use Rattle.linear_algebra.proofs.Vectors.{plus-zeros, zeros-plus, zero-scale, one-scale, scale-scale, combination-plus, combination-scale, combination-zeros, combination-combinations}
@@ -52,7 +52,7 @@ Each-take P n rows l before here = Each-rows P (take (n + 1) rows) (λ j u. at j
     at j u = subst P (sym (row-take (n + 1) rows j u)) (elim (ℕ_discrete j n) [ yes same ↦ subst (λ m. P (row rows m)) (sym same) here | no other ↦ before j (omega arith) ])
 
 -- what holds of each holds by the number
-Each-row : {p : ℕ} {P : Vector p → Type 0} (rows : List (Vector p)) → Each P rows → (j : ℕ) → j < length rows → P (row rows j)
+pub Each-row : {p : ℕ} {P : Vector p → Type 0} (rows : List (Vector p)) → Each P rows → (j : ℕ) → j < length rows → P (row rows j)
 Each-row [] none j l = absurd (omega arith)
 Each-row (r ∷ rows) (more h hs) zero l = h
 Each-row (r ∷ rows) (more h hs) (suc j) l = Each-row rows hs j (omega arith)
@@ -120,7 +120,7 @@ module _ {p : ℕ} (prime : IsPrime p) (rows : List (Vector p)) (n : ℕ) (basis
   IsOverKept-logs c = IsOverKept-combination rows c logs (Each-rows (IsOverKept rows) logs (λ j u. e.over_kept j (omega (arith, e.logged))))
 
   -- the combination of the logs by the entries at the leads is the trace of a remainder
-  pub trace_of_remainder : (x : Vector p) → IsTrace rows x (remainder basis lead x) (combination (λ j. x (lead j)) logs)
+  pub trace_of_remainder : (x : Vector p) → AreKeptCoefficients rows x (remainder basis lead x) (combination (λ j. x (lead j)) logs)
   trace_of_remainder x = record { over_kept = IsOverKept-logs (λ j. x (lead j)); adds_up = combination-logs (λ j. x (lead j)) ∙ sym (minus_twice positive x (combination (λ j. x (lead j)) basis)) }
 
   module _ (l : n < length rows) where

@@ -6,7 +6,7 @@ use Rattle.linear_algebra.specs.Prime.{IsPrime}
 use Rattle.linear_algebra.specs.Vector.{Vector, ◌⊞◌, ◌⊡◌, zeros, combination, minus, EndsBefore}
 use Rattle.linear_algebra.specs.Span.{Each, row, InSpan, Congruent, IsBasis}
 use Rattle.linear_algebra.specs.Echelon.{IsGreatestPlace, IsTopBasis, remainder}
-use Rattle.linear_algebra.specs.Coordinates.{unit, IsKept, IsReduction, IsTrace, IsCoordinates, free_places}
+use Rattle.linear_algebra.specs.Coordinates.{unit, IsKept, IsReduction, AreKeptCoefficients, IsCoordinates, free_places}
 use Rattle.linear_algebra.specs.Elimination.{IsEliminated}
 use Rattle.linear_algebra.proofs.ResidueLaws
 use Rattle.linear_algebra.proofs.Support.{greatest_or_zeros, EndsBefore-minus, EndsBefore-InSpan}
@@ -165,11 +165,11 @@ module _ {p : ℕ} (prime : IsPrime p) (d : ℕ) (rows : List (Vector p)) (ends 
   reduction_exists x = (remainder eliminated.basis eliminated.lead x, remainder_is_reduction (omega (arith, prime.above_one)) rows eliminated.basis eliminated.lead top x)
 
   -- and coefficients over kept rows that give the difference
-  pub trace_exists : (x y : Vector p) → IsReduction rows x y → (c : Vector p) × IsTrace rows x y c
+  pub trace_exists : (x y : Vector p) → IsReduction rows x y → (c : Vector p) × AreKeptCoefficients rows x y c
   trace_exists x y h =
       let c = combination (λ j. x (eliminated.lead j)) eliminated.logs in
       let same : remainder eliminated.basis eliminated.lead x ≡ y = reduction_once (omega (arith, prime.above_one)) d rows ends x (remainder eliminated.basis eliminated.lead x) y (remainder_is_reduction (omega (arith, prime.above_one)) rows eliminated.basis eliminated.lead top x) h in
-      (c, subst (λ z. IsTrace rows x z c) same (trace_of_remainder prime rows (length rows) eliminated.basis eliminated.logs eliminated.lead eliminated.kept eliminated.done x))
+      (c, subst (λ z. AreKeptCoefficients rows x z c) same (trace_of_remainder prime rows (length rows) eliminated.basis eliminated.logs eliminated.lead eliminated.kept eliminated.done x))
 
   -- a vector of length d has coordinates
   pub coordinates_exist : (x : Vector p) → EndsBefore d x → (c : Vector p) × IsCoordinates d rows x c

@@ -7,7 +7,7 @@ use Rattle.linear_algebra.specs.Residue.{Residue, residue, ◌⊗◌}
 use Rattle.linear_algebra.specs.Prime.{IsPrime}
 use Rattle.linear_algebra.specs.Vector.{Vector, ◌⊞◌, ◌⊡◌, zeros, tail, combination, minus}
 use Rattle.linear_algebra.specs.Span.{Each, none, more, row, InSpan}
-use Rattle.linear_algebra.specs.Coordinates.{IsOverKept, IsTrace}
+use Rattle.linear_algebra.specs.Coordinates.{IsOverKept, AreKeptCoefficients}
 use Rattle.linear_algebra.proofs.ResidueLaws
 use Rattle.linear_algebra.proofs.Vectors.{plus_comm, plus-zeros, zero-scale}
 use Rattle.linear_algebra.proofs.Differences.{sub_self, minus_self, minus_none, combination-minus}
@@ -75,5 +75,5 @@ over_kept_once {p} prime rows c d h k e =
     (combination-minus positive c d rows ∙ ap (λ v. minus v (combination d rows)) e ∙ minus_self positive (combination d rows)))
 
 -- the coefficients of a difference over kept rows are unique
-pub trace_once : {p : ℕ} → IsPrime p → (rows : List (Vector p)) (x y c d : Vector p) → IsTrace rows x y c → IsTrace rows x y d → c ≡ d
+pub trace_once : {p : ℕ} → IsPrime p → (rows : List (Vector p)) (x y c d : Vector p) → AreKeptCoefficients rows x y c → AreKeptCoefficients rows x y d → c ≡ d
 trace_once prime rows x y c d h k = over_kept_once prime rows c d h.over_kept k.over_kept (h.adds_up ∙ sym k.adds_up)

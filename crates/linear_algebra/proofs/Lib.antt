@@ -8,6 +8,7 @@ pub mod Exchange
 pub mod Dimension
 pub mod Spanning
 pub mod Echelon
+pub mod Rising
 pub mod Pivots
 pub mod Unique
 pub mod Congruence
@@ -16,6 +17,7 @@ pub mod Reducing
 pub mod KeptRows
 pub mod Reductions
 pub mod BoundPlaces
+pub mod FreePlaces
 pub mod Coordinates
 pub mod Elimination
 pub mod Existence

@@ -1,15 +1,15 @@
 -- Each class has one vector that is 0 at the bound places.
-use Rattle.std.proofs.Common.{◌≡◌, ◌⊎◌, ◌<◌, ℕ, List, length, sym, ◌∙◌, ap, inl, inr, arith}
+use Rattle.std.proofs.Common.{◌≡◌, ◌⊎◌, ◌<◌, ℕ, List, length, refl, sym, ◌∙◌, ap, inl, inr, arith}
 use Rattle.linear_algebra.specs.Residue.{residue}
-use Rattle.linear_algebra.specs.Vector.{Vector, zeros, minus, EndsBefore}
-use Rattle.linear_algebra.specs.Span.{Each, Congruent}
-use Rattle.linear_algebra.specs.Echelon.{IsGreatestPlace, IsPivot, IsTopBasis, remainder}
+use Rattle.linear_algebra.specs.Vector.{Vector, zeros, combination, minus, EndsBefore}
+use Rattle.linear_algebra.specs.Span.{Each, InSpan, Congruent}
+use Rattle.linear_algebra.specs.Echelon.{IsGreatestPlace, IsPivot, IsReducedFromTop, IsTopBasis, remainder}
 use Rattle.linear_algebra.specs.Coordinates.{IsBound, IsReduction}
 use Rattle.linear_algebra.proofs.Differences.{sub_self, minus_none}
 use Rattle.linear_algebra.proofs.Spans.{InSpan-trans}
-use Rattle.linear_algebra.proofs.Congruence.{Congruent-zeros, InSpan_from_Congruent, Congruent_sym, Congruent_trans, Congruent-more}
+use Rattle.linear_algebra.proofs.Congruence.{InSpan-minus, Congruent-zeros, InSpan_from_Congruent, Congruent_sym, Congruent_trans, Congruent-more}
 use Rattle.linear_algebra.proofs.Support.{greatest_or_zeros, EndsBefore-InSpan}
-use Rattle.linear_algebra.proofs.Pivots.{pivot_is_lead, lead_is_pivot}
+use Rattle.linear_algebra.proofs.Pivots.{zero_at_leads, pivot_is_lead, lead_is_pivot}
 use Rattle.linear_algebra.proofs.Reducing.{remainder_at_lead, Congruent_remainder}
 use Rattle.linear_algebra.specs.Prime.{IsPrime}
 
@@ -55,3 +55,10 @@ remainder_is_reduction {p} positive rows basis lead t x = record {
   where
     at_lead : (k : ℕ) → (j : ℕ) × (j < length basis) × (lead j ≡ k) → remainder basis lead x k ≡ residue p 0
     at_lead k (j, l, e) = ap (remainder basis lead x) (sym e) ∙ remainder_at_lead positive basis lead t.reduced x j l
+
+-- a vector of the span leaves 0
+pub remainder_spanned : {p : ℕ} → 0 < p → (basis : List (Vector p)) (lead : ℕ → ℕ) → IsReducedFromTop basis lead
+    → (v : Vector p) → InSpan basis v → remainder basis lead v ≡ zeros
+remainder_spanned positive basis lead e v h = zero_at_leads basis lead e (remainder basis lead v)
+    (InSpan-minus positive basis v (combination (λ j. v (lead j)) basis) h (record { coefficients = λ j. v (lead j); is_combination = refl }))
+    (λ j u. remainder_at_lead positive basis lead e v j u)

@@ -73,6 +73,18 @@ zero-mul {p} a = same_residue (residue p 0 ⊗ a) (residue p 0) (simp values (ap
 pub one-mul : {p : ℕ} (a : Residue p) → residue p 1 ⊗ a ≡ a
 one-mul {p} a = same_residue (residue p 1 ⊗ a) a (simp values (ap (λ n. n % p) (omega arith) ∙ a.reduced))
 
+-- added to 0
+pub zero-add : {p : ℕ} (a : Residue p) → residue p 0 ⊕ a ≡ a
+zero-add {p} a = add_comm (residue p 0) a ∙ add-zero a
+
+-- a residue times 0
+pub mul-zero : {p : ℕ} (a : Residue p) → a ⊗ residue p 0 ≡ residue p 0
+mul-zero {p} a = mul_comm a (residue p 0) ∙ zero-mul a
+
+-- a residue times 1
+pub mul-one : {p : ℕ} (a : Residue p) → a ⊗ residue p 1 ≡ a
+mul-one {p} a = mul_comm a (residue p 1) ∙ one-mul a
+
 -- products distribute over a sum on the right
 pub mul-add : {p : ℕ} (a b c : Residue p) → a ⊗ (b ⊕ c) ≡ (a ⊗ b) ⊕ (a ⊗ c)
 mul-add {p} a b c = same_residue (a ⊗ (b ⊕ c)) ((a ⊗ b) ⊕ (a ⊗ c)) (simp values (ap (λ n. n % p) (omega arith)))
@@ -108,6 +120,10 @@ one≢zero {p} prime e =
     let one : 1 % p ≡ 1 = mod-eq_of_lt prime.above_one in
     let none : 0 % p ≡ 0 = zero-mod p in
     omega arith
+
+-- the residue of a sum is the sum of residues
+pub residue-add : (p a b : ℕ) → residue p a ⊕ residue p b ≡ residue p (a + b)
+residue-add p a b = same_residue (residue p a ⊕ residue p b) (residue p (a + b)) (simp values)
 
 -- the residue of a product is the product of residues
 pub residue-mul : (p a b : ℕ) → residue p a ⊗ residue p b ≡ residue p (a * b)

@@ -1,17 +1,18 @@
 -- Sums of terms: joined lists, the steps of a merge, and the one rising list without zeros for a vector.
-use Rattle.std.proofs.Common.{◌≡◌, ◌≢◌, ◌⊎◌, ◌+◌, ◌%◌, ◌<◌, ◌≤◌, ℕ, zero, suc, List, [], ◌∷◌, ◌++◌, length, get_or, take, All, refl, sym, ◌∙◌, ap, subst, inl, inr, arith, true, false, Bool, cond, nat_eq, eq-eqb, eqb-true}
-use Rattle.std.proofs.Math.Nat.{zero-mod, mod-eq_of_lt}
+use Rattle.std.proofs.Common.{◌≡◌, ◌≢◌, ◌⊎◌, ◌+◌, ◌*◌, ◌%◌, ◌<◌, ◌≤◌, ℕ, zero, suc, List, [], ◌∷◌, ◌++◌, length, get_or, take, All, refl, sym, ◌∙◌, ap, subst, inl, inr, arith, true, false, Bool, cond, nat_eq, eq-eqb, eqb-true}
+use Rattle.std.proofs.Math.Nat.{zero-mod, mod-mod, mod-eq_of_lt}
 use Rattle.std.proofs.Math.Decide.{ℕ_discrete}
 use Rattle.std.proofs.lemmas.Bool.{cases_lt}
 use Rattle.std.proofs.lemmas.List.{take_more}
 use Rattle.std.proofs.lemmas.List.Elements.{All-get_or, All-head, All-tail}
-use Rattle.linear_algebra.specs.Residue.{residue, ◌⊕◌}
-use Rattle.linear_algebra.specs.Vector.{Vector, ◌⊞◌, zeros, EndsBefore}
+use Rattle.linear_algebra.specs.Residue.{residue, ◌⊕◌, ◌⊗◌}
+use Rattle.linear_algebra.specs.Vector.{Vector, ◌⊞◌, ◌⊡◌, zeros, EndsBefore}
 use Rattle.linear_algebra.specs.Span.{row}
 use Rattle.linear_algebra.specs.Dense.{dense}
+use Rattle.linear_algebra.specs.Coordinates.{unit}
 use Rattle.linear_algebra.specs.Echelon.{IsGreatestPlace}
 use Rattle.linear_algebra.specs.Sparse.{sparse, sparse_rows, single, IsCombo}
-use Rattle.linear_algebra.proofs.ResidueLaws.{same_residue, mod_from_residue, values, add_comm, add-zero}
+use Rattle.linear_algebra.proofs.ResidueLaws.{same_residue, same_from_mod, mod_from_residue, residue-mul, values, add_comm, add-zero, mul_comm, one-mul, zero-mul}
 use Rattle.linear_algebra.proofs.Differences.{add_cancel}
 use Rattle.linear_algebra.proofs.Vectors.{plus_assoc, plus-zeros, zeros-plus}
 use Rattle.linear_algebra.proofs.Rows.{row-map}
@@ -65,6 +66,33 @@ single_elsewhere p k a i n = at (nat_eq i k) refl
     at true e = absurd (n (sym (eqb-true i k e)))
     at false e = refl
 
+-- a multiple of a term is the term of the product
+pub scale-single : (p c k a b : ℕ) → b ≡ (c * a) % p → residue p c ⊡ single p k a ≡ single p k b
+scale-single p c k a b e = λ i j. at j (ℕ_discrete k j) i
+  where
+    product : residue p c ⊗ residue p a ≡ residue p b
+    product = residue-mul p c a ∙ same_from_mod p (c * a) b (sym (ap (λ n. n % p) e ∙ mod-mod (c * a) p))
+
+    at : (j : ℕ) → Dec (k ≡ j) → residue p c ⊗ single p k a j ≡ single p k b j
+    at j (yes same) =
+        ap (λ r. residue p c ⊗ r) (ap (single p k a) (sym same) ∙ single_at p k a) ∙ product
+        ∙ sym (single_at p k b) ∙ ap (single p k b) same
+    at j (no other) =
+        ap (λ r. residue p c ⊗ r) (single_elsewhere p k a j other) ∙ mul_comm (residue p c) (residue p 0) ∙ zero-mul (residue p c)
+        ∙ sym (single_elsewhere p k b j other)
+
+-- a times the unit vector is the single term
+pub scale-unit : (p k a : ℕ) → residue p a ⊡ unit k ≡ single p k a
+scale-unit p k a = λ i j. at j (ℕ_discrete k j) i
+  where
+    at : (j : ℕ) → Dec (k ≡ j) → residue p a ⊗ single p k 1 j ≡ single p k a j
+    at j (yes same) =
+        ap (λ r. residue p a ⊗ r) (ap (single p k 1) (sym same) ∙ single_at p k 1) ∙ mul_comm (residue p a) (residue p 1) ∙ one-mul (residue p a)
+        ∙ sym (single_at p k a) ∙ ap (single p k a) same
+    at j (no other) =
+        ap (λ r. residue p a ⊗ r) (single_elsewhere p k 1 j other) ∙ mul_comm (residue p a) (residue p 0) ∙ zero-mul (residue p a)
+        ∙ sym (single_elsewhere p k a j other)
+
 -- the sum of no term, and of one term more
 pub sparse_nil : (p : ℕ) → sparse p [] ≡ zeros
 unfolding sparse
@@ -80,6 +108,34 @@ pub sparse_elsewhere : (p : ℕ) (ts : List (ℕ × ℕ)) (k : ℕ) → ((j : �
 unfolding sparse
 sparse_elsewhere p [] k away = refl
 sparse_elsewhere p (t ∷ ts) k away = rw (single_elsewhere p t.0 t.1 k (away 0 (omega arith)), sparse_elsewhere p ts k (λ j l. away (suc j) (omega arith))) (add-zero (residue p 0))
+
+-- a sum that is not 0 at a place has a term there
+pub has_term : (p : ℕ) (ts : List (ℕ × ℕ)) (q : ℕ) → sparse p ts q ≢ residue p 0 → (i : ℕ) × (i < length ts) × ((get_or ts i (0, 0)).0 ≡ q)
+has_term p [] q some = absurd (some (ap (λ v. v q) (sparse_nil p)))
+has_term p (t ∷ ts) q some = by_place (has_term p ts q) (ℕ_discrete t.0 q)
+  where
+    by_place : (sparse p ts q ≢ residue p 0 → (i : ℕ) × (i < length ts) × ((get_or ts i (0, 0)).0 ≡ q)) → Dec (t.0 ≡ q)
+        → (i : ℕ) × (i < length (t ∷ ts)) × ((get_or (t ∷ ts) i (0, 0)).0 ≡ q)
+    by_place rest (yes same) = (0, omega arith, same)
+    by_place rest (no other) =
+        let (i, u, e) = rest (λ z. some (ap (λ v. v q) (sparse-cons p t ts) ∙ ap (λ a. a ⊕ sparse p ts q) (single_elsewhere p t.0 t.1 q other)
+        ∙ ap (λ a. residue p 0 ⊕ a) z ∙ add-zero (residue p 0))) in
+        (suc i, omega arith, e)
+
+-- where its greatest place is k, another place that is not 0 is that of a term before the last
+pub before_last : (p k : ℕ) (ts : List (ℕ × ℕ)) → IsCombo ts → sparse p ts k ≢ residue p 0 → ((i : ℕ) → k < i → sparse p ts i ≡ residue p 0)
+    → (q : ℕ) → q ≢ k → sparse p ts q ≢ residue p 0 → (i : ℕ) × (i + 1 < length ts) × ((get_or ts i (0, 0)).0 ≡ q)
+before_last p k ts combo some beyond q apart here =
+    let (i, u, e) = has_term p ts q here in
+    let (m, w, f) = has_term p ts k some in
+    (i, at i u e m w f (cases_lt (i + 1) (length ts)) (cases_lt m i), e)
+  where
+    at : (i : ℕ) → i < length ts → (get_or ts i (0, 0)).0 ≡ q → (m : ℕ) → m < length ts → (get_or ts m (0, 0)).0 ≡ k
+        → (i + 1 < length ts) ⊎ (length ts ≤ i + 1) → (m < i) ⊎ (i ≤ m) → i + 1 < length ts
+    at i u e m w f (inl l) any = l
+    at i u e m w f (inr last) (inl before) =
+        absurd (here (beyond q (let l : (get_or ts m (0, 0)).0 < (get_or ts i (0, 0)).0 = combo.rising m i before u in omega (arith, e, f))))
+    at i u e m w f (inr last) (inr past) = absurd (apart (sym e ∙ ap (λ n. (get_or ts n (0, 0)).0) (let s : i ≡ m = omega arith in s) ∙ f))
 
 -- terms with places below d are a vector of length d
 pub EndsBefore-sparse : (p d : ℕ) (ts : List (ℕ × ℕ)) → All (λ t. t.0 < d) ts → EndsBefore d (sparse p ts)

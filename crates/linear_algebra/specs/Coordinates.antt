@@ -13,7 +13,10 @@
 --   IsKeptList rows n ks      ks are the numbers below n of kept rows, rising
 --   rows_at rows ks           the rows with the numbers ks
 --   IsOverKept rows c         c is 0 but at the numbers of kept rows
---   IsTrace rows x y c        c is over kept rows, and with these coefficients the rows add up to x - y
+--   AreKeptCoefficients rows x y c
+--                             c is over kept rows, and with these coefficients the rows add up to x - y
+--   AreKeptCoefficientsOf rows x c
+--                             the same of x and its reduction
 use Rattle.std.specs.Prelude.{◌≡◌, ℕ, ◌+◌, ◌-◌, ◌<◌, List, [], ◌∷◌, length, map, take, Bool, nat_eq, not, ◌&&◌, All, slice_index}
 use Rattle.std.specs.List.Sorted.{IsStrictlyIncreasing}
 use Rattle.std.specs.List.{Contains, list_any, list_all, filter, flat_map, range_with_len}
@@ -71,6 +74,9 @@ rows_at rows ks = map (row rows) ks
 pub record IsOverKept {p : ℕ} (rows : List (Vector p)) (c : Vector p) : Type 0 where
   pub elsewhere : (i : ℕ) → (IsKept rows i → ⊥) → c i ≡ residue p 0
 
-pub record IsTrace {p : ℕ} (rows : List (Vector p)) (x y c : Vector p) : Type 0 where
+pub record AreKeptCoefficients {p : ℕ} (rows : List (Vector p)) (x y c : Vector p) : Type 0 where
   pub over_kept : IsOverKept rows c
   pub adds_up : combination c rows ≡ minus x y
+
+pub record AreKeptCoefficientsOf {p : ℕ} (rows : List (Vector p)) (x c : Vector p) : Type 0 where
+  pub of_reduction : (y : Vector p) → IsReduction rows x y → AreKeptCoefficients rows x y c

@@ -7,3 +7,4 @@ pub mod Dense
 pub mod Sparse
 pub mod Coordinates
 pub mod Elimination
+pub mod Integers

@@ -6,6 +6,7 @@
 --   Dependent rows      some coefficients that are not all 0 combine the rows to 0
 --   SameSpan xs ys      the combinations of xs are those of ys
 --   IsBasis rows basis  basis is independent and has the span of the rows
+--   IsRank rows n       the span of the rows has a basis of n vectors
 --   Congruent rows x y  x - y is a combination of the rows
 use Rattle.std.specs.Prelude.{◌≡◌, ◌≢◌, ℕ, List, [], ◌∷◌, ◌<◌, length}
 use Rattle.std.proofs.Common.{zero, suc}
@@ -38,6 +39,11 @@ pub record SameSpan {p : ℕ} (xs ys : List (Vector p)) : Type 0 where
 pub record IsBasis {p : ℕ} (rows basis : List (Vector p)) : Type 0 where
   pub independent : Independent basis
   pub same : SameSpan rows basis
+
+pub record IsRank {p : ℕ} (rows : List (Vector p)) (n : ℕ) : Type 0 where
+  pub basis : List (Vector p)
+  pub is_basis : IsBasis rows basis
+  pub size : length basis ≡ n
 
 abbrev pub Congruent : {p : ℕ} → List (Vector p) → Vector p → Vector p → Type 0
 Congruent rows x y = InSpan rows (minus x y)

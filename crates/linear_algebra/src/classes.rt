@@ -1,11 +1,17 @@
 //! Congruence modulo rows of a width d: coordinates on the free places, and coefficients over the kept rows.
 
-ghost use Rattle.std.specs.Prelude.{◌≡◌, ◌<◌, ◌+◌, ℕ, List, length};
+ghost use Rattle.std.specs.Prelude.{◌≡◌, ◌<◌, ◌+◌, ◌↔◌, ℕ, List, IsTrue, length};
 ghost use Rattle.linear_algebra.specs.Prime.{IsPrime};
 ghost use Rattle.linear_algebra.specs.Vector.{Vector, EndsBefore};
 ghost use Rattle.linear_algebra.specs.Span.{Each, IsBasis};
 ghost use Rattle.linear_algebra.specs.Echelon.{IsPivot, IsTopBasis};
-ghost use Rattle.linear_algebra.specs.Coordinates.{IsReduction, IsCoordinates, free_places, IsKeptList, IsTrace, rows_at};
+ghost use Rattle.linear_algebra.specs.Coordinates.{IsBound, IsReduction, IsCoordinates, is_bound, free_places, IsKeptList, AreKeptCoefficients, rows_at};
+
+/// A place is bound modulo rows where it is a pivot of them, and the test over all coefficients finds these places.
+pub fn bound_places()
+    ensures pivot { (p : ℕ) (rows : List (Vector p)) (k : ℕ) → IsPrime p → IsBound rows k ↔ IsPivot rows k }
+    ensures test { (p d : ℕ) (rows : List (Vector p)) (k : ℕ) → IsPrime p → Each (EndsBefore d) rows → IsTrue (is_bound d rows k) ↔ IsBound rows k }
+{}
 
 /// Each vector is congruent to exactly one vector that is 0 at the bound places.
 pub fn reductions_are_unique()
@@ -21,8 +27,8 @@ pub fn coordinates_are_unique()
 
 /// The difference of a vector and its reduction has exactly one list of coefficients over the kept rows.
 pub fn kept_coefficients_are_unique()
-    ensures exist { (p d : ℕ) (rows : List (Vector p)) (x y : Vector p) → IsPrime p → Each (EndsBefore d) rows → IsReduction rows x y → (c : Vector p) × IsTrace rows x y c }
-    ensures once { (p : ℕ) (rows : List (Vector p)) (x y b c : Vector p) → IsPrime p → IsTrace rows x y b → IsTrace rows x y c → b ≡ c }
+    ensures exist { (p d : ℕ) (rows : List (Vector p)) (x y : Vector p) → IsPrime p → Each (EndsBefore d) rows → IsReduction rows x y → (c : Vector p) × AreKeptCoefficients rows x y c }
+    ensures once { (p : ℕ) (rows : List (Vector p)) (x y b c : Vector p) → IsPrime p → AreKeptCoefficients rows x y b → AreKeptCoefficients rows x y c → b ≡ c }
 {}
 
 /// The kept rows are a basis of the span of all rows.

@@ -8,7 +8,7 @@ mod lists;
 mod subspaces;
 
 pub use classes::{
-    coordinates_are_unique, free_places_and_rank, kept_coefficients_are_unique,
+    bound_places, coordinates_are_unique, free_places_and_rank, kept_coefficients_are_unique,
     kept_rows_are_a_basis, pivots_are_leads, reductions_are_unique,
 };
 pub use lists::{dense_lists_are_unique, sparse_lists_are_unique};
