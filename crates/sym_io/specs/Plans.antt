@@ -2,11 +2,12 @@
 --   PlannedSource            the bytes left, the most bytes a call, the numbers of the calls that fail, the calls and faults so far
 --   PlannedSink              the bytes written and the capacity, with the same plan
 --   is_planned fails call    the call with this number is among those that fail
+--   room sink                how many bytes the sink still takes
+--   HasSamePlan old new      a sink's capacity, its piece and the numbers of its calls that fail stay
 --   is_refused sink          the sink's next call fails: it is planned to, or the sink is full
 --   piece_of piece a b       how many bytes one call moves: the least of the three
---   next_count n             one more, up to the end of 64 bits
 --   new_source, new_sink     as they are made: no call yet
-use Rattle.std.specs.Prelude.{ℕ, ◌+◌, ◌-◌, ◌^◌, ◌||◌, min, Bool, List, [], length, nat_eq, nat_le}
+use Rattle.std.specs.Prelude.{◌≡◌, ℕ, ◌-◌, ◌||◌, min, Bool, List, [], length, nat_eq, nat_le}
 use Rattle.std.specs.List.{list_any}
 
 pub record PlannedSource : Type 0 where
@@ -33,11 +34,16 @@ new_sink capacity piece fails = record { bytes = []; capacity = capacity; piece 
 abbrev pub is_planned : List ℕ → ℕ → Bool
 is_planned fails call = list_any (λ number. nat_eq number call) fails
 
+abbrev pub room : PlannedSink → ℕ
+room sink = sink.capacity - length sink.bytes
+
+pub record HasSamePlan (old new : PlannedSink) : Type 0 where
+  pub capacity : new.capacity ≡ old.capacity
+  pub piece : new.piece ≡ old.piece
+  pub fails : new.fails ≡ old.fails
+
 abbrev pub is_refused : PlannedSink → Bool
 is_refused sink = is_planned sink.fails sink.calls || nat_le sink.capacity (length sink.bytes)
 
 abbrev pub piece_of : ℕ → ℕ → ℕ → ℕ
 piece_of piece a b = min (min a b) piece
-
-abbrev pub next_count : ℕ → ℕ
-next_count n = min (n + 1) (2 ^ 64 - 1)

@@ -40,7 +40,8 @@ impl OutputBuffer {
 
     /// Adds a piece of the text. What doesn't fit goes to the sink.
     pub fn put<O: Sink>(&mut self, output: &mut O, piece: &[u8]) -> Result<(), Failed>
-        ensures text { BuffersText (O.written output.old) (O.written output.new) self.old self.new piece.now result }
+        ensures text { BuffersText (O.written output.old) (O.written output.new)
+            self.old self.new piece.now result }
         ensures cause { HasCause (O.faults output.old) (O.faults output.new) result }
     {
         if piece.len() > BUFFER_SIZE {
@@ -54,7 +55,8 @@ impl OutputBuffer {
 
     /// Gives the sink all that waits.
     pub fn flush<O: Sink>(&mut self, output: &mut O) -> Result<(), Failed>
-        ensures text { BuffersText (O.written output.old) (O.written output.new) self.old self.new [] result }
+        ensures text { BuffersText (O.written output.old) (O.written output.new)
+            self.old self.new [] result }
         ensures empty { OnOk result (self.new ≡ []) }
         ensures cause { HasCause (O.faults output.old) (O.faults output.new) result }
     {
@@ -68,7 +70,8 @@ impl OutputBuffer {
     // Gives the sink all that waits where as many bytes more don't fit.
     fn make_room<O: Sink>(&mut self, output: &mut O, size: usize) -> Result<(), Failed>
         requires { size ≤ BUFFER_SIZE }
-        ensures text { BuffersText (O.written output.old) (O.written output.new) self.old self.new [] result }
+        ensures text { BuffersText (O.written output.old) (O.written output.new)
+            self.old self.new [] result }
         ensures room { OnOk result (length self.new + size ≤ BUFFER_SIZE) }
         ensures cause { HasCause (O.faults output.old) (O.faults output.new) result }
     {

@@ -5,15 +5,17 @@
 
 mod buffer;
 mod fault;
+mod limits;
 mod sink;
 mod source;
 mod whole;
 
 pub use buffer::{BUFFER_SIZE, OutputBuffer};
 pub use fault::{Failed, OutOfMemory, ReadAllFault};
+pub use limits::limit_values;
 pub use sink::{MemSink, Sink, WriterSink};
 pub use source::{MemSource, ReaderSource, Source};
-pub use whole::{read_all, write_all};
+pub use whole::{PIECE_SIZE, read_all, write_all};
 
 #[cfg(test)]
 mod tests;

@@ -2,8 +2,8 @@ ghost use Rattle.std.specs.Prelude.{◌≡◌, ◌<◌, ◌≤◌, ◌+◌, ◌-
 ghost use Rattle.std.specs.Vec.{vec_capacity};
 ghost use Rattle.std.specs.declared.option.Option.{Option};
 ghost use Rattle.std.specs.Io.KnownBytes.{WriteAppends};
-ghost use Rattle.sym_io.specs.Causes.{HasCause};
-ghost use Rattle.sym_io.specs.Plans.{is_refused, next_count, piece_of, new_sink};
+ghost use Rattle.sym_io.specs.Causes.{HasCause, CountsFaults, next_count};
+ghost use Rattle.sym_io.specs.Plans.{is_refused, room, piece_of, new_sink, HasSamePlan};
 ghost use Rattle.sym_io.specs.Writing.{TakesSome};
 
 use crate::source::is_planned;
@@ -29,17 +29,26 @@ pub trait Sink {
         ensures cause { HasCause (faults self.old) (faults self.new) result };
 }
 
-/// Any writer of std, which tells nothing of its content. A write that takes nothing is a fault.
+/// Any writer of std, which tells nothing of its content. A write that takes nothing is a fault. Contracts see
+/// the count of its faults.
 #[derive(Drop)]
 pub struct WriterSink<W: Write> {
     inner: W,
     faults: u64,
 }
 
+impl<W: Write> Model for WriterSink<W> {
+    ghost use Rattle.std.specs.Prelude.{ℕ};
+
+    ghost Value = { ℕ };
+
+    ghost view = { λ s. s.faults };
+}
+
 impl<W: Write> WriterSink<W> {
     /// A sink with no fault yet.
     pub fn new(inner: W) -> Self
-        ensures { result.faults ≡ 0 }
+        ensures { result ≡ 0 }
     {
         WriterSink { inner, faults: 0 }
     }
@@ -48,9 +57,15 @@ impl<W: Write> WriterSink<W> {
 impl<W: Write> Sink for WriterSink<W> {
     ghost written = { λ _. None };
 
-    ghost faults = { λ s. s.faults };
+    ghost faults = { λ count. count };
 
-    fn write(&mut self, bytes: &[u8]) -> Result<usize, Failed> {
+    fn write(&mut self, bytes: &[u8]) -> Result<usize, Failed>
+        requires { 0 < length bytes.now }
+        ensures bound { TakesSome result bytes.now }
+        ensures bytes { WriteAppends None None result bytes.now }
+        ensures cause { HasCause self.old self.new result }
+        ensures faults { CountsFaults self.old self.new result }
+    {
         match self.inner.write(bytes) {
             Ok(count) if count > 0 => Ok(count),
             _ => {
@@ -80,9 +95,17 @@ impl Model for MemSink {
 
     ghost Value = { PlannedSink };
 
-    ghost view = { λ s. record { bytes = s.bytes.items; capacity = s.capacity; piece = s.piece; fails = s.fails.items; calls = s.calls; faults = s.faults } };
+    ghost view = { λ s. record {
+      bytes = s.bytes.items;
+      capacity = s.capacity;
+      piece = s.piece;
+      fails = s.fails.items;
+      calls = s.calls;
+      faults = s.faults;
+    } };
 
-    ghost invariant = { λ s. (vec_len s.bytes ≤ s.capacity) × (s.capacity ≤ vec_capacity s.bytes) × (0 < s.piece) };
+    ghost invariant = { λ s. (vec_len s.bytes ≤ s.capacity) × (s.capacity ≤ vec_capacity s.bytes)
+        × (0 < s.piece) };
 }
 
 impl MemSink {
@@ -126,9 +149,11 @@ impl Sink for MemSink {
         ensures bound { TakesSome result bytes.now }
         ensures bytes { WriteAppends (Some self.old.bytes) (Some self.new.bytes) result bytes.now }
         ensures cause { HasCause self.old.faults self.new.faults result }
+        ensures faults { CountsFaults self.old.faults self.new.faults result }
         ensures planned { is_err result ≡ is_refused self.old }
-        ensures size { IfOk result (λ k. k ≡ piece_of self.old.piece (length bytes.now) (self.old.capacity - length self.old.bytes)) }
-        ensures plan { (self.new.capacity ≡ self.old.capacity) × (self.new.piece ≡ self.old.piece) × (self.new.fails ≡ self.old.fails) }
+        ensures size { IfOk result
+            (λ k. k ≡ piece_of self.old.piece (length bytes.now) (room self.old)) }
+        ensures plan { HasSamePlan self.old self.new }
         ensures calls { self.new.calls ≡ next_count self.old.calls }
     {
         let fails = is_planned(&self.fails, self.calls);

@@ -2,8 +2,8 @@ ghost use Rattle.std.specs.Prelude.{◌≡◌, ◌<◌, ◌≤◌, Some, None, L
 ghost use Rattle.std.specs.declared.option.Option.{Option};
 ghost use Rattle.std.specs.Io.{ReadsAtMost};
 ghost use Rattle.std.specs.Io.KnownBytes.{ReadConsumes};
-ghost use Rattle.sym_io.specs.Causes.{HasCause};
-ghost use Rattle.sym_io.specs.Plans.{is_planned, next_count, piece_of, new_source};
+ghost use Rattle.sym_io.specs.Causes.{HasCause, CountsFaults, next_count};
+ghost use Rattle.sym_io.specs.Plans.{is_planned, piece_of, new_source};
 
 use crate::Failed;
 use std::io::Read;
@@ -26,17 +26,25 @@ pub trait Source {
         ensures cause { HasCause (faults self.old) (faults self.new) result };
 }
 
-/// Any reader of std, which tells nothing of its content.
+/// Any reader of std, which tells nothing of its content. Contracts see the count of its faults.
 #[derive(Drop)]
 pub struct ReaderSource<R: Read> {
     inner: R,
     faults: u64,
 }
 
+impl<R: Read> Model for ReaderSource<R> {
+    ghost use Rattle.std.specs.Prelude.{ℕ};
+
+    ghost Value = { ℕ };
+
+    ghost view = { λ s. s.faults };
+}
+
 impl<R: Read> ReaderSource<R> {
     /// A source with no fault yet.
     pub fn new(inner: R) -> Self
-        ensures { result.faults ≡ 0 }
+        ensures { result ≡ 0 }
     {
         ReaderSource { inner, faults: 0 }
     }
@@ -45,9 +53,15 @@ impl<R: Read> ReaderSource<R> {
 impl<R: Read> Source for ReaderSource<R> {
     ghost left = { λ _. None };
 
-    ghost faults = { λ s. s.faults };
+    ghost faults = { λ count. count };
 
-    fn read(&mut self, buf: &mut [u8]) -> Result<usize, Failed> {
+    fn read(&mut self, buf: &mut [u8]) -> Result<usize, Failed>
+        requires { 0 < length buf.old }
+        ensures bound { ReadsAtMost result buf.new }
+        ensures bytes { ReadConsumes None None result buf.new }
+        ensures cause { HasCause self.old self.new result }
+        ensures faults { CountsFaults self.old self.new result }
+    {
         match self.inner.read(buf) {
             Ok(count) => Ok(count),
             Err(_) => {
@@ -75,7 +89,13 @@ impl Model for MemSource {
 
     ghost Value = { PlannedSource };
 
-    ghost view = { λ s. record { bytes = drop s.at s.bytes.items; piece = s.piece; fails = s.fails.items; calls = s.calls; faults = s.faults } };
+    ghost view = { λ s. record {
+      bytes = drop s.at s.bytes.items;
+      piece = s.piece;
+      fails = s.fails.items;
+      calls = s.calls;
+      faults = s.faults;
+    } };
 
     ghost invariant = { λ s. (s.at ≤ vec_len s.bytes) × (0 < s.piece) };
 }
@@ -107,8 +127,10 @@ impl Source for MemSource {
         ensures bound { ReadsAtMost result buf.new }
         ensures bytes { ReadConsumes (Some self.old.bytes) (Some self.new.bytes) result buf.new }
         ensures cause { HasCause self.old.faults self.new.faults result }
+        ensures faults { CountsFaults self.old.faults self.new.faults result }
         ensures planned { is_err result ≡ is_planned self.old.fails self.old.calls }
-        ensures size { IfOk result (λ k. k ≡ piece_of self.old.piece (length self.old.bytes) (length buf.old)) }
+        ensures size { IfOk result
+            (λ k. k ≡ piece_of self.old.piece (length self.old.bytes) (length buf.old)) }
         ensures plan { (self.new.piece ≡ self.old.piece) × (self.new.fails ≡ self.old.fails) }
         ensures calls { self.new.calls ≡ next_count self.old.calls }
     {

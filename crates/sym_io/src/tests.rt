@@ -1,6 +1,5 @@
 use super::{
-    MemSink, MemSource, OutputBuffer, ReadAllFault, ReaderSource, Sink, Source, WriterSink,
-    read_all, write_all,
+    MemSink, MemSource, OutputBuffer, ReadAllFault, ReaderSource, WriterSink, read_all, write_all,
 };
 use std::alloc::Global;
 use std::test::Fail;

@@ -7,11 +7,12 @@ ghost use Rattle.sym_io.specs.Writing.{AppendsPart};
 use crate::{Failed, ReadAllFault, Sink, Source};
 use std::alloc::Global;
 
-// The bytes that one call of a source may give here.
-const CHUNK: usize = 16384;
+/// How many bytes a source is asked for at a time.
+pub const PIECE_SIZE: usize = 16384;
 
-/// All bytes that the source has left, at most `limit` of them. Every turn takes at least one byte. The fault
-/// that occurs first decides: a fault of the source, more bytes taken than the limit, want of memory.
+/// All bytes that the source has left, at most `limit` of them. Every turn takes at least one byte, and at most
+/// `PIECE_SIZE` bytes past the limit are taken. The fault that occurs first decides: a fault of the source,
+/// more bytes taken than the limit, want of memory.
 pub fn read_all<I: Source>(
     alloc: Global,
     input: &mut I,
@@ -20,12 +21,14 @@ pub fn read_all<I: Source>(
     ensures bytes { IfOk result (λ bytes. IfSome (I.left input.old) (λ left. bytes.items ≡ left)) }
     ensures ended { OnOk result (IsAtEnd (I.left input.new)) }
     ensures small { IfOk result (λ bytes. vec_len bytes ≤ limit) }
-    ensures too_long { TakesWithin (I.left input.old) (I.left input.new) limit (IsErrOf result ReadAllFault.TooLong) }
+    ensures too_long { TakesWithin (I.left input.old) (I.left input.new) limit
+        (IsErrOf result ReadAllFault.TooLong) }
     ensures faults { I.faults input.old ≤ I.faults input.new }
-    ensures read_fault { IsErrOf result ReadAllFault.ReadFault → Rose (I.faults input.old) (I.faults input.new) }
+    ensures read_fault { IsErrOf result ReadAllFault.ReadFault
+        → Rose (I.faults input.old) (I.faults input.new) }
 {
     let mut bytes = Vec::new(alloc);
-    let mut chunk = [0u8; CHUNK];
+    let mut chunk = [0u8; PIECE_SIZE];
     'pieces: loop {
         match input.read(&mut chunk) {
             Err(_) => return Err(ReadAllFault::ReadFault),

@@ -7,7 +7,12 @@ pub loop-at-preserved : goal.loop-at-preserved
 loop-at-preserved g c =
     let rest = take (length c.args.bytes.now - c.loop-at.at) (drop c.loop-at.at c.args.bytes.now) in
     record {
-      within = omega (arith, c.in_ok-at.ensures.bound.1, length-take (length c.args.bytes.now - c.loop-at.at) (drop c.loop-at.at c.args.bytes.now), length-drop c.loop-at.at c.args.bytes.now);
+      within = omega (
+        arith,
+        c.in_ok-at.ensures.bound.1,
+        length-drop c.loop-at.at c.args.bytes.now,
+        length-take (length c.args.bytes.now - c.loop-at.at) (drop c.loop-at.at c.args.bytes.now),
+      );
       appended = Appends-take-add _ _ _ c.loop-at.at c.in_ok-at.field-0 c.args.bytes.now c.loop-at.invariant.appended c.in_ok-at.ensures.bytes;
       faults = omega (arith, c.in_ok-at.ensures.cause.later, c.loop-at.invariant.faults);
     }
