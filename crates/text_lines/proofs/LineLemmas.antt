@@ -7,7 +7,8 @@ use Rattle.text_lines.proofs.SplitLemmas.{split-cut, split-last}
 use Rattle.text_lines.proofs.PartLemmas.{parts-cons, parts-ended}
 
 -- a part that others follow is a line
-without_empty_last-more : (piece first : List ℕ) (others : List (List ℕ)) → without_empty_last (piece ∷ first ∷ others) ≡ piece ∷ without_empty_last (first ∷ others)
+without_empty_last-more : (piece first : List ℕ) (others : List (List ℕ))
+    → without_empty_last (piece ∷ first ∷ others) ≡ piece ∷ without_empty_last (first ∷ others)
 without_empty_last-more [] first others = refl
 without_empty_last-more (b ∷ piece) first others = refl
 
@@ -17,7 +18,8 @@ lines-next bytes piece after split =
     ap without_empty_last split ∙ rw p.2 (without_empty_last-more piece p.0 p.1)
 
 -- the first line, and the slice that the code goes on with
-pub lines-cut : (bytes : List ℕ) (n : ℕ) → n < length bytes → ((k : ℕ) → k < n → eqb (get_or bytes k 0) 10 ≡ false) → eqb (get_or bytes n 0) 10 ≡ true → lines bytes ≡ take n bytes ∷ lines (take (length bytes - (n + 1)) (drop (n + 1) bytes))
+pub lines-cut : (bytes : List ℕ) (n : ℕ) → n < length bytes → ((k : ℕ) → k < n → eqb (get_or bytes k 0) 10 ≡ false)
+    → eqb (get_or bytes n 0) 10 ≡ true → lines bytes ≡ take n bytes ∷ lines (take (length bytes - (n + 1)) (drop (n + 1) bytes))
 lines-cut bytes n within before at =
     lines-next bytes (take n bytes) (take (length bytes - (n + 1)) (drop (n + 1) bytes)) (split-cut (λ b. eqb b 10) bytes n within before at)
 
@@ -26,7 +28,8 @@ only_line [] some = absurd cc
 only_line (b ∷ bytes) some = refl
 
 -- a text without a line feed is its only line
-pub lines-last : (bytes : List ℕ) → false ≡ eqb (length bytes) 0 → ((k : ℕ) → k < length bytes → eqb (get_or bytes k 0) 10 ≡ false) → lines bytes ≡ take (length bytes) bytes ∷ lines (drop (length bytes) bytes)
+pub lines-last : (bytes : List ℕ) → false ≡ eqb (length bytes) 0 → ((k : ℕ) → k < length bytes → eqb (get_or bytes k 0) 10 ≡ false)
+    → lines bytes ≡ take (length bytes) bytes ∷ lines (drop (length bytes) bytes)
 lines-last bytes some before =
     rw (take_all (length bytes) bytes (omega arith), drop_all (length bytes) bytes (omega arith))
     (ap without_empty_last (split-last (λ b. eqb b 10) bytes before) ∙ only_line bytes some)

@@ -14,17 +14,21 @@ pub is_natural-some : (token : List ℕ) → false ≡ eqb (length token) 0 → 
 is_natural-some [] some = absurd cc
 is_natural-some (b ∷ token) some = refl
 
-pub digits-next : (token : List ℕ) (i : ℕ) → i < length token → is_digit (get_or token i 0) ≡ true → list_all is_digit (drop i token) ≡ list_all is_digit (drop (i + 1) token)
+pub digits-next : (token : List ℕ) (i : ℕ) → i < length token → is_digit (get_or token i 0) ≡ true
+    → list_all is_digit (drop i token) ≡ list_all is_digit (drop (i + 1) token)
 digits-next token i within fits = rw (add-one, drop-cons token i 0, fits) refl
 
 pub digits-stop : (token : List ℕ) (i : ℕ) → i < length token → is_digit (get_or token i 0) ≡ false → list_all is_digit (drop i token) ≡ false
 digits-stop token i within fails = rw (drop-cons token i 0, fails) refl
 
-pub value_after-next : (cap : ℕ) (token : List ℕ) (i value : ℕ) → i < length token → min (value_after value (drop i token)) cap ≡ min (value_after (min (value * 10 + (get_or token i 0 - 48)) cap) (drop (i + 1) token)) cap
+pub value_after-next : (cap : ℕ) (token : List ℕ) (i value : ℕ) → i < length token
+    → min (value_after value (drop i token)) cap ≡ min (value_after (min (value * 10 + (get_or token i 0 - 48)) cap) (drop (i + 1) token)) cap
 value_after-next cap token i value within =
-    rw (drop-cons token i 0, add-one) (capped_same cap (10 * value + (get_or token i 0 - 48)) (min (value * 10 + (get_or token i 0 - 48)) cap) (drop (suc i) token) (omega arith))
+    rw (drop-cons token i 0, add-one)
+    (capped_same cap (10 * value + (get_or token i 0 - 48)) (min (value * 10 + (get_or token i 0 - 48)) cap) (drop (suc i) token) (omega arith))
 
-pub value_after-end : (token : List ℕ) (i value : ℕ) → length token ≤ i → (list_all is_digit (drop i token) ≡ true) × (value_after value (drop i token) ≡ value)
+pub value_after-end : (token : List ℕ) (i value : ℕ) → length token ≤ i
+    → (list_all is_digit (drop i token) ≡ true) × (value_after value (drop i token) ≡ value)
 value_after-end token i value past = (rw (drop_all i token past) refl, rw (drop_all i token past) refl)
 
 unsigned_abs-neg : (n : ℕ) → unsigned_abs (neg_ℤ (pos n)) ≡ n
@@ -38,11 +42,13 @@ pub capped_natural-large : (cap : ℕ) (token : List ℕ) → cap ≤ natural_of
 capped_natural-large cap token large = omega arith
 
 -- a number with or without a minus
-signed_same : (minus : Bool) (cap x y : ℕ) → unsigned_abs (if minus then neg_ℤ (pos x) else pos y) ≤ cap → (if minus then neg_ℤ (pos (min x cap)) else pos (min y cap)) ≡ (if minus then neg_ℤ (pos x) else pos y)
+signed_same : (minus : Bool) (cap x y : ℕ) → unsigned_abs (if minus then neg_ℤ (pos x) else pos y) ≤ cap
+    → (if minus then neg_ℤ (pos (min x cap)) else pos (min y cap)) ≡ (if minus then neg_ℤ (pos x) else pos y)
 signed_same true cap x y small = ap (λ n. neg_ℤ (pos n)) (omega (arith, unsigned_abs-neg x))
 signed_same false cap x y small = ap pos (omega arith)
 
-signed_large : (minus : Bool) (cap x y : ℕ) → cap ≤ unsigned_abs (if minus then neg_ℤ (pos x) else pos y) → unsigned_abs (if minus then neg_ℤ (pos (min x cap)) else pos (min y cap)) ≡ cap
+signed_large : (minus : Bool) (cap x y : ℕ) → cap ≤ unsigned_abs (if minus then neg_ℤ (pos x) else pos y)
+    → unsigned_abs (if minus then neg_ℤ (pos (min x cap)) else pos (min y cap)) ≡ cap
 signed_large true cap x y large = unsigned_abs-neg (min x cap) ∙ omega (arith, unsigned_abs-neg x)
 signed_large false cap x y large = omega arith
 

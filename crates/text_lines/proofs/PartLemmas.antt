@@ -12,7 +12,8 @@ pub parts-cons : (separator : ℕ) (bytes : List ℕ) → (first : List ℕ) × 
 parts-cons separator [] = ([], [], refl)
 parts-cons separator (b ∷ bytes) =
     let p = parts-cons separator bytes in
-    elim (eqb b separator) as (λ v. (first : List ℕ) × (others : List (List ℕ)) × (cond v ([] ∷ parts separator bytes) (onto_first b (parts separator bytes)) ≡ first ∷ others)) [
+    elim (eqb b separator) as (λ v. (first : List ℕ) × (others : List (List ℕ))
+    × (cond v ([] ∷ parts separator bytes) (onto_first b (parts separator bytes)) ≡ first ∷ others)) [
       | true ↦ ([], parts separator bytes, refl)
       | false ↦ (b ∷ p.0, p.1, rw p.2 refl)
     ]
@@ -21,11 +22,13 @@ parts-cons separator (b ∷ bytes) =
 none_passes : (separator : ℕ) (piece : List ℕ) → Lacks separator piece → All (λ b. eqb b separator ≡ false) piece
 none_passes separator piece lacks = λ k d below. not_true _ (λ e. lacks k d below (eqb-true _ _ e))
 
-pub parts-ended : (separator : ℕ) (piece bytes : List ℕ) → Lacks separator piece → parts separator (piece ++ separator ∷ bytes) ≡ piece ∷ parts separator bytes
+pub parts-ended : (separator : ℕ) (piece bytes : List ℕ) → Lacks separator piece
+    → parts separator (piece ++ separator ∷ bytes) ≡ piece ∷ parts separator bytes
 parts-ended separator piece bytes lacks =
     slice_split_at (λ b. eqb b separator) piece separator bytes (none_passes separator piece lacks) (eq-eqb separator separator refl)
 
-pub parts-joined : (separator : ℕ) (piece : List ℕ) (pieces : List (List ℕ)) → All (Lacks separator) (piece ∷ pieces) → parts separator (joined separator (piece ∷ pieces)) ≡ piece ∷ pieces
+pub parts-joined : (separator : ℕ) (piece : List ℕ) (pieces : List (List ℕ)) → All (Lacks separator) (piece ∷ pieces)
+    → parts separator (joined separator (piece ∷ pieces)) ≡ piece ∷ pieces
 parts-joined separator piece [] lack = slice_split_none (λ b. eqb b separator) piece (none_passes separator piece (lack 0 [] (omega arith)))
 parts-joined separator piece (next ∷ pieces) lack =
     parts-ended separator piece (joined separator (next ∷ pieces)) (lack 0 [] (omega arith))

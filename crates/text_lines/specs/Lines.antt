@@ -53,7 +53,9 @@ LinesOfEnded = (ls : List (List ℕ)) → All (Lacks 10) ls → lines (ended ls)
 
 -- parts that hold no separator, one at least, are the parts of their text
 abbrev pub PartsOfJoined : Type 0
-PartsOfJoined = (separator : ℕ) (piece : List ℕ) (pieces : List (List ℕ)) → All (Lacks separator) (piece ∷ pieces) → parts separator (joined separator (piece ∷ pieces)) ≡ piece ∷ pieces
+PartsOfJoined =
+    (separator : ℕ) (piece : List ℕ) (pieces : List (List ℕ)) → All (Lacks separator) (piece ∷ pieces)
+    → parts separator (joined separator (piece ∷ pieces)) ≡ piece ∷ pieces
 
 -- no byte of a text is lost in its parts
 abbrev pub JoinedParts : Type 0

@@ -10,7 +10,8 @@ use memchr::memchr;
 pub fn next_line(text: &[u8]) -> Option<(&[u8], &[u8])>
     ensures line { MatchOption result (lines text.now ≡ [])
         (λ next. lines text.now ≡ next.0.now ∷ lines next.1.now) }
-    ensures within { IfSome result (λ next. length next.0.now + length next.1.now ≤ length text.now) }
+    ensures within { IfSome result
+        (λ next. length next.0.now + length next.1.now ≤ length text.now) }
     ensures shorter { IfSome result (λ next. length next.1.now < length text.now) }
 {
     if text.is_empty() {

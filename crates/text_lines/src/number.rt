@@ -46,7 +46,8 @@ pub fn integer(token: &[u8], cap: u32) -> Option<i64>
 
 /// The number that digits stand for, below 2 to the 64.
 fn value_of(token: &[u8]) -> Option<u64>
-    ensures { MatchOption result ((is_natural token.now ≡ false) ⊎ (2 ^ 64 ≤ natural_of token.now))
+    ensures { MatchOption result
+        ((is_natural token.now ≡ false) ⊎ (2 ^ 64 ≤ natural_of token.now))
         (λ n. (is_natural token.now ≡ true) × (n ≡ natural_of token.now)) }
 {
     if token.is_empty() {

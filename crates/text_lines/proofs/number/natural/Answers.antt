@@ -7,9 +7,11 @@ pub loop-b-preserved : goal.loop-b-preserved
 loop-b-preserved c =
     let byte = get_or c.args.token.now c.loop-b.b-index 0 in
     let fits : is_digit byte ≡ true = sym (c.if-not-is_digit_byte.ensures {u = tt}) in
-    let next : c.min-value.result ≡ min (c.loop-b.value * 10 + (byte - 48)) c.args.cap = rw (← c.from.ensures, ← c.from-in-loop-b.ensures) c.min-value.ensures in
+    let next : c.min-value.result ≡ min (c.loop-b.value * 10 + (byte - 48)) c.args.cap =
+    rw (← c.from.ensures, ← c.from-in-loop-b.ensures) c.min-value.ensures in
     record {
       small = omega arith;
       digits = sym (digits-next c.args.token.now c.loop-b.b-index c.loop-b-test.true fits) ∙ c.loop-b.invariant.digits;
-      value = rw next (sym (value_after-next c.args.cap c.args.token.now c.loop-b.b-index c.loop-b.value c.loop-b-test.true) ∙ c.loop-b.invariant.value);
+      value = rw next (sym (value_after-next c.args.cap c.args.token.now c.loop-b.b-index c.loop-b.value c.loop-b-test.true)
+          ∙ c.loop-b.invariant.value);
     }

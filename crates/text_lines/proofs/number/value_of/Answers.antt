@@ -11,5 +11,6 @@ loop-b-preserved c =
     record {
       small = omega arith;
       digits = sym (digits-next c.args.token.now c.loop-b.b-index c.loop-b-test.true fits) ∙ c.loop-b.invariant.digits;
-      value = rw next (sym (value_after-next (2 ^ 64) c.args.token.now c.loop-b.b-index c.loop-b.value c.loop-b-test.true) ∙ c.loop-b.invariant.value);
+      value = rw next (sym (value_after-next (2 ^ 64) c.args.token.now c.loop-b.b-index c.loop-b.value c.loop-b-test.true)
+          ∙ c.loop-b.invariant.value);
     }

@@ -8,4 +8,5 @@ returns-then-is_empty-clause-token c = c.unindented-rest.ensures.same ∙ no_tok
 pub returns-clause-token : goal.returns-clause-token
 returns-clause-token c =
     c.unindented-rest.ensures.same ∙ rw (c.split_at.ensures.front, c.split_at.ensures.back)
-    (token-next c.unindented-rest.result.now c.word.result (c.if-is_empty.ensures {u = tt}) c.unindented-rest.ensures.begins c.word.ensures.within c.word.ensures.taken c.word.ensures.stops)
+    (token-next c.unindented-rest.result.now c.word.result
+    (c.if-is_empty.ensures {u = tt}) c.unindented-rest.ensures.begins c.word.ensures.within c.word.ensures.taken c.word.ensures.stops)
