@@ -4,3 +4,7 @@ pub mod Lists
 pub mod Quotients
 pub mod TableFacts
 pub mod Places
+pub mod Lifting
+pub mod Merging
+pub mod Placing
+pub mod Renumbering

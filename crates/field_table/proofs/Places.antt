@@ -1,5 +1,5 @@
 -- The places of a list of terms, by its vector.
-use Rattle.std.proofs.Common.{◌≡◌, ◌<◌, ℕ, List, get_or, All, sym, ◌∙◌, inl, inr, arith}
+use Rattle.std.proofs.Common.{◌<◌, ℕ, List, get_or, sym, ◌∙◌, inl, inr}
 use Rattle.std.proofs.lemmas.Bool.{cases_lt}
 use Rattle.std.proofs.lemmas.List.Elements.{All-get_or, All-from_get_or}
 use Rattle.linear_algebra.specs.Vector.{EndsBefore}

@@ -1,5 +1,5 @@
 pub mod InnerProduct
-pub mod Integers
+pub mod Places
 pub mod Ratio
 pub mod Residues
 pub mod Table

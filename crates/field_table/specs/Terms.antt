@@ -3,7 +3,7 @@
 --   place_at terms k        the place of term k
 --   HasPlacesBelow n terms  each place is below n
 use Rattle.std.specs.Prelude.{ℕ, ℤ, List, ◌<◌, map, All, slice_index_or}
-use Rattle.field_table.specs.Integers.{residue_of}
+use Rattle.linear_algebra.specs.Integers.{residue_of}
 
 abbrev pub residue_terms : ℕ → List (ℕ × ℤ) → List (ℕ × ℕ)
 residue_terms p terms = map (λ t. (t.0, residue_of p t.1)) terms

@@ -1,12 +1,14 @@
-ghost use Rattle.std.specs.Prelude.{◌≡◌, ◌≤◌, ◌^◌, ℕ, IfOk, length};
+ghost use Rattle.std.specs.Prelude.{◌≡◌, ◌<◌, ◌≤◌, ◌^◌, ◌↔◌, ℕ, IfOk, IsTrue, length};
 ghost use Rattle.field_table.specs.Residues.{AreResidues, HasResidues};
 ghost use Rattle.field_table.specs.Terms.{HasPlacesBelow, residue_terms};
 ghost use Rattle.linear_algebra.specs.Dense.{dense};
+ghost use Rattle.linear_algebra.specs.Residue.{residue};
 ghost use Rattle.linear_algebra.specs.Sparse.{IsCombo, sparse};
 
 use crate::field::Field;
 use crate::gather::{gathered, nonzero_terms, order, reduced};
 use crate::memory::OutOfMemory;
+use crate::search::number_at;
 use std::alloc::Global;
 use std::marker::Model;
 
@@ -69,6 +71,23 @@ impl Combo {
         ensures combo { IsCombo self.now }
     {
         self.terms.as_slice()
+    }
+
+    /// The number at a place, and 0 where no term has it. Costs a binary search. Takes no memory.
+    pub fn at(&self, place: u32) -> u32
+        ensures number { (p : ℕ) → residue p result ≡ sparse p self.now place }
+        ensures residue { (p : ℕ) → 0 < p → HasResidues p self.now → result < p }
+    {
+        number_at(&self.terms, place)
+    }
+
+    /// Whether each place and each number is below its bound.
+    pub fn is_within(&self, places: u32, numbers: u32) -> bool
+        ensures { IsTrue result ↔ (HasPlacesBelow places self.now × HasResidues numbers self.now) }
+    {
+        self.terms
+            .iter()
+            .all(|term| term.0 < places && term.1 < numbers)
     }
 
     /// Gives the terms back; the vector is moved and not copied.

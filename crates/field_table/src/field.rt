@@ -1,5 +1,5 @@
 ghost use Rattle.std.specs.Prelude.{◌≡◌, ◌↔◌, ◌<◌, ◌+◌, ◌-◌, ◌*◌, ◌%◌, IsOk, IfOk, IsErrOf, IsNone, IfSome};
-ghost use Rattle.field_table.specs.Integers.{residue_of};
+ghost use Rattle.linear_algebra.specs.Integers.{residue_of};
 ghost use Rattle.field_table.specs.Table.{IsListed};
 ghost use Rattle.linear_algebra.specs.Prime.{IsPrime};
 ghost use Rattle.linear_algebra.specs.Residue.{residue, opposite, ◌⊕◌, ◌⊖◌, ◌⊗◌};

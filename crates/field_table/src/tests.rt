@@ -60,3 +60,39 @@ fn combinations_of_terms(rt: HostRuntime) -> Result<(), OutOfMemory> {
     nonzero_residues_have_inverses();
     Ok(())
 }
+
+// Places 4 and 2 below 6, in this order.
+#[test]
+fn table_of_places(rt: HostRuntime) -> Result<(), OutOfMemory> {
+    let mut table = PlaceTable::none(rt.alloc(), 6)?;
+    is_shared(&table);
+    table.push(4)?;
+    table.push(2)?;
+    assert_eq!(rt; table.count(), 2);
+    assert_eq!(rt; table.place(1), 2);
+    assert_eq!(rt; table.number_of(4), Some(0));
+    assert_eq!(rt; table.number_of(3), None);
+    assert_eq!(rt; table.number_of(6), None);
+    Ok(())
+}
+
+// Modulo 7, 3 at 1 and 2 at 4 with 5 times 1 at 0, 1 at 4 and 4 at 5 added: 2 + 5 is 0 at 4, and 5 times 4 is 6.
+#[test]
+fn sums_of_terms(rt: HostRuntime) -> Result<(), OutOfMemory> {
+    let field = Field::open(7).unwrap();
+    let sum = plus_multiple(
+        rt.alloc(),
+        field,
+        &[(1, 3), (4, 2)],
+        5,
+        &[(0, 1), (4, 1), (5, 4)],
+    )?;
+    assert!(rt; sum.terms() == [(0, 5), (1, 3), (5, 6)].as_slice());
+    assert_eq!(rt; (sum.at(1), sum.at(4)), (3, 0));
+    assert!(rt; sum.is_within(6, 7));
+    assert!(rt; !sum.is_within(5, 7));
+    assert!(rt; !sum.is_within(6, 6));
+    let product = product(rt.alloc(), field, 5, &[(1, 3), (4, 2)])?;
+    assert!(rt; product.terms() == [(1, 1), (4, 3)].as_slice());
+    Ok(())
+}
