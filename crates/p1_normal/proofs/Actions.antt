@@ -7,7 +7,8 @@ use Rattle.std.proofs.lemmas.Nat.{mul-mod_first, mul-mod_second}
 use Rattle.p1_normal.specs.declared.point.Point.{Point}
 use Rattle.p1_normal.specs.declared.matrix.Matrix.{Matrix}
 use Rattle.p1_normal.specs.Units.{gcd, IsUnit}
-use Rattle.p1_normal.specs.Points.{point, SamePoint, common_divisor, residue, scaled}
+use Rattle.linear_algebra.specs.Integers.{residue_of}
+use Rattle.p1_normal.specs.Points.{point, SamePoint, common_divisor, pair_multiple}
 use Rattle.p1_normal.specs.Actions.{image, determinant, product, matrix}
 use Rattle.p1_normal.proofs.Units.{inner, IsGcd-gcd, IsUnit-from_gcd, IsUnit-from_mod, gcd_from_IsUnit}
 use Rattle.p1_normal.proofs.Places.{same_point}
@@ -17,18 +18,18 @@ use Rattle.p1_normal.proofs.Residues.{residue-add, residue-mul, residue-neg}
 pub image_by : ℕ → ℕ → ℕ → ℕ → ℕ → Point → Point
 image_by N a b c d p = point ((p.u * a + p.v * c) % N) ((p.u * b + p.v * d) % N)
 
-part : (n u v : ℕ) (x y : ℤ) → residue (suc n) (pos u *ℤ x +ℤ pos v *ℤ y) ≡ (u * residue (suc n) x + v * residue (suc n) y) % suc n
+part : (n u v : ℕ) (x y : ℤ) → residue_of (suc n) (pos u *ℤ x +ℤ pos v *ℤ y) ≡ (u * residue_of (suc n) x + v * residue_of (suc n) y) % suc n
 part n u v x y = residue-add n (pos u *ℤ x) (pos v *ℤ y)
-    ∙ ap (λ i. (i + residue (suc n) (pos v *ℤ y)) % suc n) (residue-mul n (pos u) x)
-    ∙ ap (λ i. ((u % suc n * residue (suc n) x) % suc n + i) % suc n) (residue-mul n (pos v) y)
-    ∙ tidy u v (residue (suc n) x) (residue (suc n) y)
+    ∙ ap (λ i. (i + residue_of (suc n) (pos v *ℤ y)) % suc n) (residue-mul n (pos u) x)
+    ∙ ap (λ i. ((u % suc n * residue_of (suc n) x) % suc n + i) % suc n) (residue-mul n (pos v) y)
+    ∙ tidy u v (residue_of (suc n) x) (residue_of (suc n) y)
   where
     tidy : (u v a b : ℕ) → ((u % suc n * a) % suc n + (v % suc n * b) % suc n) % suc n ≡ (u * a + v * b) % suc n
     tidy u v a b = simp inner refl
 
-pub image_is : (n : ℕ) (p : Point) (m : Matrix) → image (suc n) p m ≡ image_by (suc n) (residue (suc n) m.a) (residue (suc n) m.b) (residue (suc n) m.c) (residue (suc n) m.d) p
+pub image_is : (n : ℕ) (p : Point) (m : Matrix) → image (suc n) p m ≡ image_by (suc n) (residue_of (suc n) m.a) (residue_of (suc n) m.b) (residue_of (suc n) m.c) (residue_of (suc n) m.d) p
 unfolding image image_by
-image_is n p m = same_point (image (suc n) p m) (image_by (suc n) (residue (suc n) m.a) (residue (suc n) m.b) (residue (suc n) m.c) (residue (suc n) m.d) p) (part n p.u p.v m.a m.c) (part n p.u p.v m.b m.d)
+image_is n p m = same_point (image (suc n) p m) (image_by (suc n) (residue_of (suc n) m.a) (residue_of (suc n) m.b) (residue_of (suc n) m.c) (residue_of (suc n) m.d) p) (part n p.u p.v m.a m.c) (part n p.u p.v m.b m.d)
 
 mod_parts : (N y z a c : ℕ) → (y % N * a + z % N * c) % N ≡ (y * a + z * c) % N
 mod_parts N y z a c = sym (mod-add-mod (y % N * a) N (z % N * c)) ∙ ap (λ i. (i + z % N * c) % N) (mul-mod_first y a N) ∙ mod-add-mod (y * a) N (z % N * c)
@@ -54,8 +55,8 @@ SamePoint-image_by {N} {p} {q} a b c d h = record {
 pub SamePoint-image : (n : ℕ) {p q : Point} (m : Matrix) → SamePoint (suc n) p q → SamePoint (suc n) (image (suc n) p m) (image (suc n) q m)
 SamePoint-image n {p} {q} m h =
     subst (λ r. SamePoint (suc n) r (image (suc n) q m)) (sym (image_is n p m))
-    (subst (λ r. SamePoint (suc n) (image_by (suc n) (residue (suc n) m.a) (residue (suc n) m.b) (residue (suc n) m.c) (residue (suc n) m.d) p) r) (sym (image_is n q m))
-    (SamePoint-image_by (residue (suc n) m.a) (residue (suc n) m.b) (residue (suc n) m.c) (residue (suc n) m.d) h))
+    (subst (λ r. SamePoint (suc n) (image_by (suc n) (residue_of (suc n) m.a) (residue_of (suc n) m.b) (residue_of (suc n) m.c) (residue_of (suc n) m.d) p) r) (sym (image_is n q m))
+    (SamePoint-image_by (residue_of (suc n) m.a) (residue_of (suc n) m.b) (residue_of (suc n) m.c) (residue_of (suc n) m.d) h))
 
 -- ---- the action of a product
 image_by-image_by : (N u v a b c d x z : ℕ) → ((u * a + v * c) % N * x + (u * b + v * d) % N * z) % N ≡ (u * ((a * x + b * z) % N) + v * ((c * x + d * z) % N)) % N
@@ -64,18 +65,18 @@ image_by-image_by N u v a b c d x z =
     let f : (a * x + b * z) % N * u + (c * x + d * z) % N * v ≡ u * ((a * x + b * z) % N) + v * ((c * x + d * z) % N) = omega arith in
     mod_parts N (u * a + v * c) (u * b + v * d) x z ∙ ap (λ i. i % N) e ∙ sym (mod_parts N (a * x + b * z) (c * x + d * z) u v) ∙ ap (λ i. i % N) f
 
-entry : (n : ℕ) (x y w z : ℤ) → residue (suc n) (x *ℤ w +ℤ y *ℤ z) ≡ (residue (suc n) x * residue (suc n) w + residue (suc n) y * residue (suc n) z) % suc n
+entry : (n : ℕ) (x y w z : ℤ) → residue_of (suc n) (x *ℤ w +ℤ y *ℤ z) ≡ (residue_of (suc n) x * residue_of (suc n) w + residue_of (suc n) y * residue_of (suc n) z) % suc n
 entry n x y w z = residue-add n (x *ℤ w) (y *ℤ z)
-    ∙ ap (λ i. (i + residue (suc n) (y *ℤ z)) % suc n) (residue-mul n x w)
-    ∙ ap (λ i. ((residue (suc n) x * residue (suc n) w) % suc n + i) % suc n) (residue-mul n y z)
-    ∙ mod-add-mod (residue (suc n) x * residue (suc n) w) (suc n) ((residue (suc n) y * residue (suc n) z) % suc n)
-    ∙ add-mod-mod (residue (suc n) x * residue (suc n) w) (residue (suc n) y * residue (suc n) z) (suc n)
+    ∙ ap (λ i. (i + residue_of (suc n) (y *ℤ z)) % suc n) (residue-mul n x w)
+    ∙ ap (λ i. ((residue_of (suc n) x * residue_of (suc n) w) % suc n + i) % suc n) (residue-mul n y z)
+    ∙ mod-add-mod (residue_of (suc n) x * residue_of (suc n) w) (suc n) ((residue_of (suc n) y * residue_of (suc n) z) % suc n)
+    ∙ add-mod-mod (residue_of (suc n) x * residue_of (suc n) w) (residue_of (suc n) y * residue_of (suc n) z) (suc n)
 
 -- to act by m and then by k is to act by the product
 pub image-image : (n : ℕ) (p : Point) (m k : Matrix) → image (suc n) (image (suc n) p m) k ≡ image (suc n) p (product m k)
 unfolding image_by
 image-image n p m k =
-    let r : ℤ → ℕ = residue (suc n) in
+    let r : ℤ → ℕ = residue_of (suc n) in
     ap (λ q. image (suc n) q k) (image_is n p m) ∙ image_is n (image_by (suc n) (r m.a) (r m.b) (r m.c) (r m.d) p) k
     ∙ same_point _ _
     (image_by-image_by (suc n) p.u p.v (r m.a) (r m.b) (r m.c) (r m.d) (r k.a) (r k.c)
@@ -85,9 +86,9 @@ image-image n p m k =
     ∙ sym (image_is n p (product m k))
 
 -- ---- a determinant coprime to N keeps the common divisor 1
-residue-det : (n : ℕ) (m : Matrix) → residue (suc n) (determinant m) ≡ (residue (suc n) m.a * residue (suc n) m.d + n * (residue (suc n) m.b * residue (suc n) m.c)) % suc n
+residue-det : (n : ℕ) (m : Matrix) → residue_of (suc n) (determinant m) ≡ (residue_of (suc n) m.a * residue_of (suc n) m.d + n * (residue_of (suc n) m.b * residue_of (suc n) m.c)) % suc n
 residue-det n m =
-    let r : ℤ → ℕ = residue (suc n) in
+    let r : ℤ → ℕ = residue_of (suc n) in
     residue-add n (m.a *ℤ m.d) (neg_ℤ (m.b *ℤ m.c))
     ∙ ap (λ i. (i + r (neg_ℤ (m.b *ℤ m.c))) % suc n) (residue-mul n m.a m.d)
     ∙ ap (λ i. ((r m.a * r m.d) % suc n + i) % suc n) (residue-neg n (m.b *ℤ m.c) ∙ ap (λ i. (n * i) % suc n) (residue-mul n m.b m.c) ∙ mul-mod_second n (r m.b * r m.c) (suc n))
@@ -128,41 +129,41 @@ common_divisor-image_by n a b c d p h =
     dropped g N x y divides h = (dvd-add_iff_left g (dvd-mul_left_of_dvd g divides y)).1 h
 
 -- a matrix whose determinant is coprime to N sends points to points
-pub common_divisor-image : (n : ℕ) (p : Point) (m : Matrix) → gcd (residue (suc n) (determinant m)) (suc n) ≡ 1 → common_divisor (suc n) p ≡ 1 → common_divisor (suc n) (image (suc n) p m) ≡ 1
+pub common_divisor-image : (n : ℕ) (p : Point) (m : Matrix) → gcd (residue_of (suc n) (determinant m)) (suc n) ≡ 1 → common_divisor (suc n) p ≡ 1 → common_divisor (suc n) (image (suc n) p m) ≡ 1
 common_divisor-image n p m coprime one =
-    let r : ℤ → ℕ = residue (suc n) in
+    let r : ℤ → ℕ = residue_of (suc n) in
     let unit : IsUnit (suc n) (r m.a * r m.d + n * (r m.b * r m.c)) = IsUnit-from_mod (suc n) (r m.a * r m.d + n * (r m.b * r m.c)) (subst (IsUnit (suc n)) (residue-det n m) (IsUnit-from_gcd (suc n) (r (determinant m)) (omega arith) coprime)) in
     ap (common_divisor (suc n)) (image_is n p m)
     ∙ eq-one_of_dvd-one (subst (λ i. common_divisor (suc n) (image_by (suc n) (r m.a) (r m.b) (r m.c) (r m.d) p) ∣ i) one (common_divisor-image_by n (r m.a) (r m.b) (r m.c) (r m.d) p unit))
 
 -- ---- the matrices S, T and U
 -- a scalar matrix multiplies the pair
-pub scalar : (n : ℕ) (p : Point) (x : ℤ) → image (suc n) p (matrix x (pos 0) (pos 0) x) ≡ scaled (suc n) (residue (suc n) x) p
+pub scalar : (n : ℕ) (p : Point) (x : ℤ) → image (suc n) p (matrix x (pos 0) (pos 0) x) ≡ pair_multiple (suc n) (residue_of (suc n) x) p
 unfolding image_by
 scalar n p x =
-    let r : ℕ = residue (suc n) x in
-    let z : residue (suc n) (pos 0) ≡ 0 = zero-mod (suc n) in
+    let r : ℕ = residue_of (suc n) x in
+    let z : residue_of (suc n) (pos 0) ≡ 0 = zero-mod (suc n) in
     let e : p.u * r + p.v * 0 ≡ r * p.u = omega arith in
     let f : p.u * 0 + p.v * r ≡ r * p.v = omega arith in
     image_is n p (matrix x (pos 0) (pos 0) x)
     ∙ same_point _ _ (ap (λ i. (p.u * r + p.v * i) % suc n) z ∙ ap (λ i. i % suc n) e) (ap (λ i. (p.u * i + p.v * r) % suc n) z ∙ ap (λ i. i % suc n) f)
 
 -- so does a shift by N
-pub shift : (n : ℕ) (p : Point) → image (suc n) p (matrix (pos 1) (pos (suc n)) (pos 0) (pos 1)) ≡ scaled (suc n) (1 % suc n) p
+pub shift : (n : ℕ) (p : Point) → image (suc n) p (matrix (pos 1) (pos (suc n)) (pos 0) (pos 1)) ≡ pair_multiple (suc n) (1 % suc n) p
 unfolding image_by
 shift n p =
     let r : ℕ = 1 % suc n in
-    let z : residue (suc n) (pos 0) ≡ 0 = zero-mod (suc n) in
-    let w : residue (suc n) (pos (suc n)) ≡ 0 = mod_self (suc n) in
+    let z : residue_of (suc n) (pos 0) ≡ 0 = zero-mod (suc n) in
+    let w : residue_of (suc n) (pos (suc n)) ≡ 0 = mod_self (suc n) in
     let e : p.u * r + p.v * 0 ≡ r * p.u = omega arith in
     let f : p.u * 0 + p.v * r ≡ r * p.v = omega arith in
     image_is n p (matrix (pos 1) (pos (suc n)) (pos 0) (pos 1))
     ∙ same_point _ _ (ap (λ i. (p.u * r + p.v * i) % suc n) z ∙ ap (λ i. i % suc n) e) (ap (λ i. (p.u * i + p.v * r) % suc n) w ∙ ap (λ i. i % suc n) f)
 
 -- -1 is a unit
-pub IsUnit-minus_one : (n : ℕ) → IsUnit (suc n) (residue (suc n) (negsuc 0))
-IsUnit-minus_one n = record { inverse = residue (suc n) (negsuc 0); gives_one = sym (residue-mul n (negsuc 0) (negsuc 0)) }
+pub IsUnit-minus_one : (n : ℕ) → IsUnit (suc n) (residue_of (suc n) (negsuc 0))
+IsUnit-minus_one n = record { inverse = residue_of (suc n) (negsuc 0); gives_one = sym (residue-mul n (negsuc 0) (negsuc 0)) }
 
-pub coprime-minus_one : (N : ℕ) → 0 < N → gcd (residue N (negsuc 0)) N ≡ 1
+pub coprime-minus_one : (N : ℕ) → 0 < N → gcd (residue_of N (negsuc 0)) N ≡ 1
 coprime-minus_one zero some = absurd (omega arith)
-coprime-minus_one (suc n) some = gcd_from_IsUnit (suc n) (residue (suc n) (negsuc 0)) (IsUnit-minus_one n)
+coprime-minus_one (suc n) some = gcd_from_IsUnit (suc n) (residue_of (suc n) (negsuc 0)) (IsUnit-minus_one n)

@@ -5,11 +5,11 @@ use Rattle.std.proofs.lemmas.Nat.{mul-mod_second}
 use Rattle.std.proofs.lemmas.Bool.{cases_lt}
 use Rattle.p1_normal.specs.declared.point.Point.{Point}
 use Rattle.p1_normal.specs.Units.{IsUnit}
-use Rattle.p1_normal.specs.Points.{scaled, SamePoint, normal_form, IsBelow}
+use Rattle.p1_normal.specs.Points.{pair_multiple, SamePoint, normal_form, IsBelow}
 use Rattle.p1_normal.specs.Tables.{place, IsHead}
 use Rattle.p1_normal.proofs.Units.{IsUnit-mul}
-use Rattle.p1_normal.proofs.SamePoints.{SamePoint_sym, SamePoint-scaled}
-use Rattle.p1_normal.proofs.NormalForms.{normal_form-le, IsBelow-scaled}
+use Rattle.p1_normal.proofs.SamePoints.{SamePoint_sym, SamePoint-pair_multiple}
+use Rattle.p1_normal.proofs.NormalForms.{normal_form-le, IsBelow-pair_multiple}
 
 -- of two pairs the one that is not after the other is not in a later row
 pub row-le : (N : ℕ) (p q : Point) → p.v < N → q.v < N → place N p ≤ place N q → p.u ≤ q.u
@@ -29,8 +29,8 @@ head_same N p q below_p below_q head_p head_q same = omega (arith, head-le N p q
 pub head_of_form : (N : ℕ) (p : Point) → 0 < N → IsBelow N p → normal_form N p ≡ p → IsHead N p.u
 head_of_form N p some below own = record {
   least = λ s h.
-      let le : place N (normal_form N p) ≤ place N (scaled N s p) = normal_form-le N p (scaled N s p) some (SamePoint-scaled N s p h) (IsBelow-scaled N s p some) in
-      row-le N p (scaled N s p) below.second (IsBelow-scaled N s p some).second (omega (arith, le, ap (place N) own));
+      let le : place N (normal_form N p) ≤ place N (pair_multiple N s p) = normal_form-le N p (pair_multiple N s p) some (SamePoint-pair_multiple N s p h) (IsBelow-pair_multiple N s p some) in
+      row-le N p (pair_multiple N s p) below.second (IsBelow-pair_multiple N s p some).second (omega (arith, le, ap (place N) own));
 }
 
 -- the least multiple by units is a head

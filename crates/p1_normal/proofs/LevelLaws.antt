@@ -9,7 +9,7 @@ use Rattle.p1_normal.specs.declared.point.Point.{Point}
 use Rattle.p1_normal.specs.declared.matrix.Matrix.{Matrix}
 use Rattle.p1_normal.specs.Units.{gcd, IsUnit}
 use Rattle.p1_normal.specs.Points.{reduced, common_divisor, is_before, normal_form, symbols, IsBelow, IsNumber, SamePoint}
-use Rattle.p1_normal.specs.Actions.{action, product, IsInvertible, moved, matrix_s, matrix_t, matrix_u, matrix_star}
+use Rattle.p1_normal.specs.Actions.{action, product, IsInvertible, image_number, matrix_s, matrix_t, matrix_u, matrix_star}
 use Rattle.p1_normal.proofs.Units.{IsGcd-gcd, gcd_from_IsGcd, IsMultiple-gcd, IsUnit-from_gcd, gcd_from_IsUnit}
 use Rattle.p1_normal.proofs.Residues.{dvd-residue}
 use Rattle.p1_normal.proofs.SamePoints.{SamePoint_sym, SamePoint_trans}
@@ -17,7 +17,7 @@ use Rattle.p1_normal.proofs.Places.{place-before, place-not_before}
 use Rattle.p1_normal.proofs.NormalForms.{SamePoint-normal_form, normal_form-le, normal_form-same}
 use Rattle.p1_normal.proofs.Symbols.{symbol_is}
 use Rattle.p1_normal.proofs.Numbers.{symbols_rise, level_positive}
-use Rattle.p1_normal.proofs.Moves.{action-action, action-same, moved-moved, moved-s-s, moved-t-t-t, iterate-u, moved-star-star, moved-star-s, moved-star-t-star}
+use Rattle.p1_normal.proofs.Moves.{action-action, action-same, image_number-image_number, image_number-s-s, image_number-t-t-t, iterate-u, image_number-star-star, image_number-star-s, image_number-star-t-star}
 
 pub bezout : (N s : ℕ) → 0 < N → (x : ℕ) × ((s * x) % N ≡ gcd s N % N)
 bezout zero s some = absurd (omega arith)
@@ -74,31 +74,31 @@ pub action_product : (N : ℕ) (p : Point) (m k : Matrix) → 0 < N → action N
 action_product zero p m k some = absurd (omega arith)
 action_product (suc n) p m k some = action-action n p m k
 
-pub moved_product : (N k : ℕ) (m w : Matrix) → k < length (symbols N) → IsInvertible N m → moved N (moved N k m) w ≡ moved N k (product m w)
-moved_product zero k m w within unit = absurd (omega (arith, level_positive 0 k within))
-moved_product (suc n) k m w within unit = moved-moved n k m w within unit
+pub image_number_product : (N k : ℕ) (m w : Matrix) → k < length (symbols N) → IsInvertible N m → image_number N (image_number N k m) w ≡ image_number N k (product m w)
+image_number_product zero k m w within unit = absurd (omega (arith, level_positive 0 k within))
+image_number_product (suc n) k m w within unit = image_number-image_number n k m w within unit
 
-pub s_twice : (N k : ℕ) → k < length (symbols N) → moved N (moved N k matrix_s) matrix_s ≡ k
+pub s_twice : (N k : ℕ) → k < length (symbols N) → image_number N (image_number N k matrix_s) matrix_s ≡ k
 s_twice zero k within = absurd (omega (arith, level_positive 0 k within))
-s_twice (suc n) k within = moved-s-s n k within
+s_twice (suc n) k within = image_number-s-s n k within
 
-pub t_thrice : (N k : ℕ) → k < length (symbols N) → moved N (moved N (moved N k matrix_t) matrix_t) matrix_t ≡ k
+pub t_thrice : (N k : ℕ) → k < length (symbols N) → image_number N (image_number N (image_number N k matrix_t) matrix_t) matrix_t ≡ k
 t_thrice zero k within = absurd (omega (arith, level_positive 0 k within))
-t_thrice (suc n) k within = moved-t-t-t n k within
+t_thrice (suc n) k within = image_number-t-t-t n k within
 
-pub u_round : (N k : ℕ) → k < length (symbols N) → iterate (λ j. moved N j matrix_u) N k ≡ k
+pub u_round : (N k : ℕ) → k < length (symbols N) → iterate (λ j. image_number N j matrix_u) N k ≡ k
 u_round zero k within = absurd (omega (arith, level_positive 0 k within))
 u_round (suc n) k within = iterate-u n k within
 
-pub star_twice : (N k : ℕ) → k < length (symbols N) → moved N (moved N k matrix_star) matrix_star ≡ k
+pub star_twice : (N k : ℕ) → k < length (symbols N) → image_number N (image_number N k matrix_star) matrix_star ≡ k
 star_twice zero k within = absurd (omega (arith, level_positive 0 k within))
-star_twice (suc n) k within = moved-star-star n k within
+star_twice (suc n) k within = image_number-star-star n k within
 
-pub star_s : (N k : ℕ) → k < length (symbols N) → moved N (moved N k matrix_star) matrix_s ≡ moved N (moved N k matrix_s) matrix_star
+pub star_s : (N k : ℕ) → k < length (symbols N) → image_number N (image_number N k matrix_star) matrix_s ≡ image_number N (image_number N k matrix_s) matrix_star
 star_s zero k within = absurd (omega (arith, level_positive 0 k within))
-star_s (suc n) k within = moved-star-s n k within
+star_s (suc n) k within = image_number-star-s n k within
 
 pub star_t : (N k : ℕ) → k < length (symbols N) →
-    moved N (moved N (moved N k matrix_star) matrix_t) matrix_star ≡ moved N (moved N (moved N (moved N k matrix_s) matrix_t) matrix_t) matrix_s
+    image_number N (image_number N (image_number N k matrix_star) matrix_t) matrix_star ≡ image_number N (image_number N (image_number N (image_number N k matrix_s) matrix_t) matrix_t) matrix_s
 star_t zero k within = absurd (omega (arith, level_positive 0 k within))
-star_t (suc n) k within = moved-star-t-star n k within
+star_t (suc n) k within = image_number-star-t-star n k within

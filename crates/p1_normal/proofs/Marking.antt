@@ -8,11 +8,11 @@ use Rattle.std.proofs.lemmas.Bool.{cases_eq}
 use Rattle.p1_normal.specs.declared.level.TheConstants.{MAX_LEVEL}
 use Rattle.p1_normal.specs.declared.point.Point.{Point}
 use Rattle.p1_normal.specs.Units.{fixing}
-use Rattle.p1_normal.specs.Points.{scaled, SamePoint, symbols, is_symbol, pairs, IsBelow}
+use Rattle.p1_normal.specs.Points.{pair_multiple, SamePoint, symbols, is_symbol, pairs, IsBelow}
 use Rattle.p1_normal.specs.Tables.{place, IsHead, Marks}
 use Rattle.p1_normal.specs.Sieving.{at}
-use Rattle.p1_normal.proofs.SamePoints.{SamePoint-scaled}
-use Rattle.p1_normal.proofs.NormalForms.{IsBelow-scaled, scaled_is}
+use Rattle.p1_normal.proofs.SamePoints.{SamePoint-pair_multiple}
+use Rattle.p1_normal.proofs.NormalForms.{IsBelow-pair_multiple, scaled_is}
 use Rattle.p1_normal.proofs.Heads.{head_same}
 use Rattle.p1_normal.proofs.Places.{place-lt, place_inj, pairs_are}
 use Rattle.p1_normal.proofs.UnitLists.{fixing_at, fixing_found}
@@ -20,29 +20,29 @@ use Rattle.p1_normal.proofs.UnitLists.{fixing_at, fixing_found}
 -- the number is written at the first k multiples of p by units that keep its first part, and elsewhere at names of p alone
 pub record Marked (N : ℕ) (p : Point) (number k : ℕ) (old new : List ℕ) : Type 0 where
   pub size : length new ≡ length old
-  pub done : (j : ℕ) → j < k → slice_index new (place N (scaled N (get_or (fixing N p.u) j 0) p)) ≡ number
+  pub done : (j : ℕ) → j < k → slice_index new (place N (pair_multiple N (get_or (fixing N p.u) j 0) p)) ≡ number
   pub others : (q : Point) → IsBelow N q → (slice_index new (place N q) ≡ slice_index old (place N q)) ⊎ ((slice_index new (place N q) ≡ number) × SamePoint N p q)
 
 pub marked_none : (N : ℕ) (p : Point) (number : ℕ) (old : List ℕ) → Marked N p number 0 old old
 marked_none N p number old = record { size = refl; done = λ j l. absurd (omega arith); others = λ q below. inl refl }
 
 pub marked_more : (N : ℕ) (p : Point) (number k : ℕ) (old new : List ℕ) → 0 < N → length old ≡ N * N → k < length (fixing N p.u) → Marked N p number k old new →
-    Marked N p number (k + 1) old (set new (place N (scaled N (get_or (fixing N p.u) k 0) p)) number)
+    Marked N p number (k + 1) old (set new (place N (pair_multiple N (get_or (fixing N p.u) k 0) p)) number)
 marked_more N p number k old new some size within h =
-    let r : Point = scaled N (get_or (fixing N p.u) k 0) p in
-    let r_below : IsBelow N r = IsBelow-scaled N (get_or (fixing N p.u) k 0) p some in
+    let r : Point = pair_multiple N (get_or (fixing N p.u) k 0) p in
+    let r_below : IsBelow N r = IsBelow-pair_multiple N (get_or (fixing N p.u) k 0) p some in
     let inside : place N r < length new = omega (arith, place-lt N r r_below, h.size) in
     record {
       size = length-set new (place N r) number ∙ h.size;
-      done = λ j l. elim (cases_eq (place N (scaled N (get_or (fixing N p.u) j 0) p)) (place N r)) [
+      done = λ j l. elim (cases_eq (place N (pair_multiple N (get_or (fixing N p.u) j 0) p)) (place N r)) [
         | inl same ↦ ap (λ i. slice_index (set new (place N r) number) i) same ∙ written new (place N r) inside
         | inr other ↦ elim (cases_eq j k) [
-          | inl is ↦ absurd (other (ap (λ i. place N (scaled N (get_or (fixing N p.u) i 0) p)) is))
-          | inr before ↦ kept new (place N r) (place N (scaled N (get_or (fixing N p.u) j 0) p)) other ∙ h.done j (omega arith)
+          | inl is ↦ absurd (other (ap (λ i. place N (pair_multiple N (get_or (fixing N p.u) i 0) p)) is))
+          | inr before ↦ kept new (place N r) (place N (pair_multiple N (get_or (fixing N p.u) j 0) p)) other ∙ h.done j (omega arith)
         ]
       ];
       others = λ q below. elim (cases_eq (place N q) (place N r)) [
-        | inl same ↦ inr (ap (λ i. slice_index (set new (place N r) number) i) same ∙ written new (place N r) inside, subst (SamePoint N p) (place_inj N r q r_below.second below.second (sym same)) (SamePoint-scaled N (get_or (fixing N p.u) k 0) p (fixing_at N p.u k within)))
+        | inl same ↦ inr (ap (λ i. slice_index (set new (place N r) number) i) same ∙ written new (place N r) inside, subst (SamePoint N p) (place_inj N r q r_below.second below.second (sym same)) (SamePoint-pair_multiple N (get_or (fixing N p.u) k 0) p (fixing_at N p.u k within)))
         | inr other ↦ elim (h.others q below) [
           | inl e ↦ inl (kept new (place N r) (place N q) other ∙ e)
           | inr e ↦ inr (kept new (place N r) (place N q) other ∙ e.0, e.1)
@@ -63,7 +63,7 @@ marked_all N p number old new some below_p head_p h = record {
       let one_head : q.u ≡ p.u = sym (head_same N p q below_p below head_p head same) in
       let kept : (same.factor % N * p.u) % N ≡ p.u = ap (λ r. r.u) (scaled_is N p q same below) ∙ one_head in
       let (j, l, e) = fixing_found N p.u same.factor some same.unit kept in
-      ap (λ r. slice_index new (place N r)) (sym (scaled_is N p q same below) ∙ ap (λ s. scaled N s p) (sym e)) ∙ h.done j l;
+      ap (λ r. slice_index new (place N r)) (sym (scaled_is N p q same below) ∙ ap (λ s. pair_multiple N s p) (sym e)) ∙ h.done j l;
   others = h.others;
 }
 

@@ -7,11 +7,11 @@ use Rattle.std.proofs.lemmas.Nat.{mul-mod_first}
 use Rattle.std.proofs.lemmas.Bool.{cases_eq, cond_both, false≢true}
 use Rattle.p1_normal.specs.declared.point.Point.{Point}
 use Rattle.p1_normal.specs.Units.{IsUnit, is_unit}
-use Rattle.p1_normal.specs.Points.{scaled, SamePoint, earlier, least, normal_form, IsBelow}
+use Rattle.p1_normal.specs.Points.{pair_multiple, SamePoint, earlier, least, normal_form, IsBelow}
 use Rattle.p1_normal.specs.Tables.{place}
 use Rattle.p1_normal.proofs.Units.{IsUnit-one, IsUnit-mod}
 use Rattle.p1_normal.proofs.UnitTests.{IsUnit-from_test, test_from_IsUnit}
-use Rattle.p1_normal.proofs.SamePoints.{SamePoint_sym, SamePoint_trans, SamePoint-scaled}
+use Rattle.p1_normal.proofs.SamePoints.{SamePoint_sym, SamePoint_trans, SamePoint-pair_multiple}
 use Rattle.p1_normal.proofs.Places.{same_point, place_inj, place-earlier_left, place-earlier_right, earlier_is}
 
 -- what holds of q and of each f s that passes holds of the least
@@ -44,22 +44,22 @@ least-le N f t each a (suc n) s q h low high e =
     ])
 
 -- what holds of each multiple by a unit holds of the normal form
-pub normal_form_is : (N : ℕ) (p : Point) (P : Point → Type 0) → ((s : ℕ) → IsUnit N s → P (scaled N s p)) → P (normal_form N p)
+pub normal_form_is : (N : ℕ) (p : Point) (P : Point → Type 0) → ((s : ℕ) → IsUnit N s → P (pair_multiple N s p)) → P (normal_form N p)
 unfolding normal_form
-normal_form_is N p P each = least_is P (λ s. scaled N s p) (is_unit N) (λ s e. each s (IsUnit-from_test N s e)) (range_with_len 0 N) (scaled N 1 p) (each 1 (IsUnit-one N))
+normal_form_is N p P each = least_is P (λ s. pair_multiple N s p) (is_unit N) (λ s e. each s (IsUnit-from_test N s e)) (range_with_len 0 N) (pair_multiple N 1 p) (each 1 (IsUnit-one N))
 
 pub SamePoint-normal_form : (N : ℕ) (p : Point) → SamePoint N p (normal_form N p)
-SamePoint-normal_form N p = normal_form_is N p (SamePoint N p) (λ s h. SamePoint-scaled N s p h)
+SamePoint-normal_form N p = normal_form_is N p (SamePoint N p) (λ s h. SamePoint-pair_multiple N s p h)
 
-pub IsBelow-scaled : (N s : ℕ) (p : Point) → 0 < N → IsBelow N (scaled N s p)
-IsBelow-scaled N s p some = record { first = mod-lt (s * p.u) some; second = mod-lt (s * p.v) some }
+pub IsBelow-pair_multiple : (N s : ℕ) (p : Point) → 0 < N → IsBelow N (pair_multiple N s p)
+IsBelow-pair_multiple N s p some = record { first = mod-lt (s * p.u) some; second = mod-lt (s * p.v) some }
 
 pub IsBelow-normal_form : (N : ℕ) (p : Point) → 0 < N → IsBelow N (normal_form N p)
-IsBelow-normal_form N p some = normal_form_is N p (IsBelow N) (λ s h. IsBelow-scaled N s p some)
+IsBelow-normal_form N p some = normal_form_is N p (IsBelow N) (λ s h. IsBelow-pair_multiple N s p some)
 
 -- a pair below N that names the point p is a multiple of p by a unit below N
-pub scaled_is : (N : ℕ) (p q : Point) (h : SamePoint N p q) → IsBelow N q → scaled N (h.factor % N) p ≡ q
-scaled_is N p q h below = same_point (scaled N (h.factor % N) p) q
+pub scaled_is : (N : ℕ) (p q : Point) (h : SamePoint N p q) → IsBelow N q → pair_multiple N (h.factor % N) p ≡ q
+scaled_is N p q h below = same_point (pair_multiple N (h.factor % N) p) q
     (mul-mod_first h.factor p.u N ∙ h.first ∙ mod-eq_of_lt below.first)
     (mul-mod_first h.factor p.v N ∙ h.second ∙ mod-eq_of_lt below.second)
 
@@ -68,8 +68,8 @@ pub normal_form-le : (N : ℕ) (p q : Point) → 0 < N → SamePoint N p q → I
 unfolding normal_form
 normal_form-le N p q some h below =
     let small : h.factor % N < N = mod-lt h.factor some in
-    let first : place N (normal_form N p) ≤ place N (scaled N (h.factor % N) p) =
-    least-le N (λ s. scaled N s p) (is_unit N) (λ s. mod-lt (s * p.v) some) 0 N (h.factor % N) (scaled N 1 p) (mod-lt (1 * p.v) some) (omega arith) (omega arith) (test_from_IsUnit N (h.factor % N) some (IsUnit-mod N h.factor h.unit)) in
+    let first : place N (normal_form N p) ≤ place N (pair_multiple N (h.factor % N) p) =
+    least-le N (λ s. pair_multiple N s p) (is_unit N) (λ s. mod-lt (s * p.v) some) 0 N (h.factor % N) (pair_multiple N 1 p) (mod-lt (1 * p.v) some) (omega arith) (omega arith) (test_from_IsUnit N (h.factor % N) some (IsUnit-mod N h.factor h.unit)) in
     subst (λ r. place N (normal_form N p) ≤ place N r) (scaled_is N p q h below) first
 
 -- two names of one point have one normal form

@@ -5,7 +5,7 @@ use Rattle.std.proofs.lemmas.Nat.Gcd.{dvd_trans}
 use Rattle.std.proofs.Math.Nat.{dvd-mod_iff, dvd-mul_left_of_dvd, mod-mod, dvd_antisymm}
 use Rattle.std.proofs.lemmas.Nat.{mul-mod_first, mul-mod_second}
 use Rattle.p1_normal.specs.Units.{gcd, IsUnit}
-use Rattle.p1_normal.specs.Points.{scaled, SamePoint, common_divisor}
+use Rattle.p1_normal.specs.Points.{pair_multiple, SamePoint, common_divisor}
 use Rattle.p1_normal.specs.declared.point.Point.{Point}
 use Rattle.p1_normal.proofs.Units.{IsGcd-gcd, IsUnit-one, IsUnit-mul, IsUnit-inverse}
 
@@ -40,8 +40,8 @@ SamePoint_trans {N} {p} {q} {r} g h = record {
   second = twice N g.factor h.factor p.v q.v r.v g.second h.second;
 }
 
-pub SamePoint-scaled : (N s : ℕ) (p : Point) → IsUnit N s → SamePoint N p (scaled N s p)
-SamePoint-scaled N s p h = record { factor = s; unit = h; first = sym (mod-mod (s * p.u) N); second = sym (mod-mod (s * p.v) N) }
+pub SamePoint-pair_multiple : (N s : ℕ) (p : Point) → IsUnit N s → SamePoint N p (pair_multiple N s p)
+SamePoint-pair_multiple N s p h = record { factor = s; unit = h; first = sym (mod-mod (s * p.u) N); second = sym (mod-mod (s * p.v) N) }
 
 -- a common divisor with N of one pair divides the other
 across : (N s u w d : ℕ) → (s * u) % N ≡ w % N → d ∣ N → d ∣ u → d ∣ w

@@ -8,7 +8,8 @@ use Rattle.std.proofs.lemmas.List.FromFn.{get_or-range_with_len, length-range_wi
 use Rattle.p1_normal.specs.declared.point.Point.{Point}
 use Rattle.p1_normal.specs.declared.matrix.Matrix.{Matrix}
 use Rattle.p1_normal.specs.Units.{gcd}
-use Rattle.p1_normal.specs.Points.{point, SamePoint, common_divisor, normal_form, is_symbol, pairs, symbols, symbol_at, residue, IsBelow}
+use Rattle.linear_algebra.specs.Integers.{residue_of}
+use Rattle.p1_normal.specs.Points.{point, SamePoint, common_divisor, normal_form, is_symbol, pairs, symbols, symbol_at, IsBelow}
 use Rattle.p1_normal.specs.Actions.{image, determinant}
 use Rattle.p1_normal.specs.Sieving.{at}
 use Rattle.p1_normal.proofs.Places.{pairs_are, IsBelow-at}
@@ -42,6 +43,6 @@ pub symbol_unique : (N j k : ℕ) (p q : Point) → 0 < N → slice_get (symbols
 symbol_unique N j k p q some e f same = sym (symbol_is N j p some e).own ∙ normal_form-same N p q some same ∙ (symbol_is N k q some f).own
 
 -- `common_divisor-image` at a positive N
-pub image_coprime : (N : ℕ) (p : Point) (m : Matrix) → 0 < N → gcd (residue N (determinant m)) N ≡ 1 → common_divisor N p ≡ 1 → common_divisor N (image N p m) ≡ 1
+pub image_coprime : (N : ℕ) (p : Point) (m : Matrix) → 0 < N → gcd (residue_of N (determinant m)) N ≡ 1 → common_divisor N p ≡ 1 → common_divisor N (image N p m) ≡ 1
 image_coprime zero p m some e one = absurd (omega arith)
 image_coprime (suc n) p m some e one = common_divisor-image n p m e one

@@ -9,12 +9,12 @@ use Rattle.std.proofs.lemmas.Option.{none-some, slice_get-get_or}
 use Rattle.p1_normal.specs.declared.point.Point.{Point}
 use Rattle.p1_normal.specs.declared.tables.Turn.{Turn}
 use Rattle.p1_normal.specs.Units.{IsUnit, units}
-use Rattle.p1_normal.specs.Points.{scaled, SamePoint, common_divisor, normal_form, IsBelow, IsNumber}
+use Rattle.p1_normal.specs.Points.{pair_multiple, SamePoint, common_divisor, normal_form, IsBelow, IsNumber}
 use Rattle.p1_normal.specs.Tables.{IsHead, IsTurn, AreTurns, IsNumbering}
 use Rattle.p1_normal.proofs.Units.{IsUnit-one, IsUnit-mod, IsUnit-inverse}
 use Rattle.p1_normal.proofs.UnitLists.{unit_at, unit_below, unit_found}
-use Rattle.p1_normal.proofs.SamePoints.{undone, SamePoint-scaled, common_divisor-same}
-use Rattle.p1_normal.proofs.NormalForms.{IsBelow-scaled, normal_form-same}
+use Rattle.p1_normal.proofs.SamePoints.{undone, SamePoint-pair_multiple, common_divisor-same}
+use Rattle.p1_normal.proofs.NormalForms.{IsBelow-pair_multiple, normal_form-same}
 use Rattle.p1_normal.proofs.Heads.{head_of_least}
 use Rattle.p1_normal.proofs.Lists.{get-push_cases}
 
@@ -93,16 +93,16 @@ turns_more N k turns turn h is = record {
 pub turned_number : {N : ℕ} {numbers : List ℕ} {turn : Turn} (p : Point) (k : ℕ) → 0 < N → IsBelow N p → IsTurn N p.u turn → IsNumbering N numbers → slice_index numbers (turn.head * N + (turn.factor * p.v) % N) ≡ suc k →
     (common_divisor N p ≡ 1) × IsNumber N k (normal_form N p)
 turned_number {N} {numbers} {turn} p k some below h table e =
-    let q : Point = scaled N turn.factor p in
-    let same : SamePoint N p q = SamePoint-scaled N turn.factor p h.unit in
-    let (one, stands) = table.some q k (IsBelow-scaled N turn.factor p some) (subst (IsHead N) (sym h.turned) h.head) (ap (λ u. slice_index numbers (u * N + (turn.factor * p.v) % N)) h.turned ∙ e) in
+    let q : Point = pair_multiple N turn.factor p in
+    let same : SamePoint N p q = SamePoint-pair_multiple N turn.factor p h.unit in
+    let (one, stands) = table.some q k (IsBelow-pair_multiple N turn.factor p some) (subst (IsHead N) (sym h.turned) h.head) (ap (λ u. slice_index numbers (u * N + (turn.factor * p.v) % N)) h.turned ∙ e) in
     (common_divisor-same same ∙ one, stands ∙ ap Some (sym (normal_form-same N p q some same)))
 
 pub turned_none : {N : ℕ} {numbers : List ℕ} {turn : Turn} (p : Point) → 0 < N → IsBelow N p → IsTurn N p.u turn → IsNumbering N numbers → slice_index numbers (turn.head * N + (turn.factor * p.v) % N) ≡ 0 → common_divisor N p ≢ 1
 turned_none {N} {numbers} {turn} p some below h table e one =
-    let q : Point = scaled N turn.factor p in
-    let same : SamePoint N p q = SamePoint-scaled N turn.factor p h.unit in
-    table.none q (IsBelow-scaled N turn.factor p some) (subst (IsHead N) (sym h.turned) h.head) (ap (λ u. slice_index numbers (u * N + (turn.factor * p.v) % N)) h.turned ∙ e) (sym (common_divisor-same same) ∙ one)
+    let q : Point = pair_multiple N turn.factor p in
+    let same : SamePoint N p q = SamePoint-pair_multiple N turn.factor p h.unit in
+    table.none q (IsBelow-pair_multiple N turn.factor p some) (subst (IsHead N) (sym h.turned) h.head) (ap (λ u. slice_index numbers (u * N + (turn.factor * p.v) % N)) h.turned ∙ e) (sym (common_divisor-same same) ∙ one)
 
 pub turn_at : {N : ℕ} {turns : List Turn} (u : ℕ) (d : Turn) → AreTurns N turns → u < N → IsTurn N u (get_or turns u d)
 turn_at {N} {turns} u d h within = h.each u (get_or turns u d) (slice_get-get_or turns u d (let e = h.size in omega arith))

@@ -7,7 +7,7 @@
 --   image N p m          the pair (u, v) times m, modulo N: (a u + c v, b u + d v)
 --   action N p m         its normal form: the symbol (u:v) times m, for a determinant coprime to N
 --   IsInvertible N m     the determinant is coprime to N
---   moved N k m          the number of symbol k times m, for a matrix that is invertible modulo N
+--   image_number N k m          the number of symbol k times m, for a matrix that is invertible modulo N
 --   matrix_s             S: (u:v) becomes (v:-u)
 --   matrix_t             T: (u:v) becomes (v:-u-v)
 --   matrix_u             U: (u:v) becomes (u:u+v)
@@ -17,7 +17,8 @@ use Rattle.p1_normal.specs.declared.matrix.Matrix.{Matrix}
 use Rattle.p1_normal.specs.declared.matrix.TheConstants.{MAX_ENTRY}
 use Rattle.p1_normal.specs.declared.point.Point.{Point}
 use Rattle.p1_normal.specs.Units.{gcd}
-use Rattle.p1_normal.specs.Points.{residue, reduced, normal_form, symbol_at, number}
+use Rattle.linear_algebra.specs.Integers.{residue_of}
+use Rattle.p1_normal.specs.Points.{reduced, normal_form, symbol_at, number}
 
 -- the matrix of two rows
 abbrev pub matrix : ℤ → ℤ → ℤ → ℤ → Matrix
@@ -47,11 +48,11 @@ action N p m = normal_form N (image N p m)
 
 -- the determinant is coprime to N
 abbrev pub IsInvertible : ℕ → Matrix → Type 0
-IsInvertible N m = gcd (residue N (determinant m)) N ≡ 1
+IsInvertible N m = gcd (residue_of N (determinant m)) N ≡ 1
 
 -- the number of symbol k times the matrix
-unfoldable pub moved : ℕ → ℕ → Matrix → ℕ
-moved N k m = number N (action N (symbol_at N k) m)
+unfoldable pub image_number : ℕ → ℕ → Matrix → ℕ
+image_number N k m = number N (action N (symbol_at N k) m)
 
 abbrev pub matrix_s : Matrix
 matrix_s = matrix (pos 0) (negsuc 0) (pos 1) (pos 0)

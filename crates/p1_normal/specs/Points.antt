@@ -2,7 +2,7 @@
 -- A point is a `Point` p, seen as its pair of numbers p.u, p.v.
 --   point u v            the pair (u, v)
 --   IsBelow N p          both parts are below N
---   scaled N s p         s times the pair, modulo N
+--   pair_multiple N s p  s times the pair, modulo N
 --   SamePoint N p q      q is p times a unit modulo N: both pairs name one point
 --   common_divisor N p   the greatest common divisor of u, v and N: p names a point where it is 1
 --   is_before p q        lexicographic order
@@ -15,11 +15,10 @@
 --   IsNumber N k p       symbol number k is p, counted from 0
 --   symbol_at N k        symbol number k, for k below the number of symbols
 --   number N p           the number of p, for a symbol p
---   residue N z          the residue of an integer modulo N
 --   reduced N u v        the pair of the residues of two integers
-use Rattle.std.specs.Prelude.{◌≡◌, ◌<◌, ℕ, ◌*◌, ◌%◌, Bool, List, [], ◌∷◌, filter, map, nat_eq, nat_lt, ◌&&◌, ◌||◌, if◌then◌else◌, ℤ, pos, unsigned_abs, slice_get, unwrap_or, Some}
-use Rattle.std.specs.Int.{int_rem_euclid}
+use Rattle.std.specs.Prelude.{◌≡◌, ◌<◌, ℕ, ◌*◌, ◌%◌, Bool, List, [], ◌∷◌, filter, map, nat_eq, nat_lt, ◌&&◌, ◌||◌, if◌then◌else◌, ℤ, slice_get, unwrap_or, Some}
 use Rattle.std.specs.List.{range_with_len, flat_map, position_or_len}
+use Rattle.linear_algebra.specs.Integers.{residue_of}
 use Rattle.p1_normal.specs.declared.point.Point.{Point}
 use Rattle.p1_normal.specs.Units.{gcd, IsUnit, units}
 
@@ -32,8 +31,8 @@ pub record IsBelow (N : ℕ) (p : Point) : Type 0 where
   pub second : p.v < N
 
 -- s times the pair, modulo N
-abbrev pub scaled : ℕ → ℕ → Point → Point
-scaled N s p = point ((s * p.u) % N) ((s * p.v) % N)
+abbrev pub pair_multiple : ℕ → ℕ → Point → Point
+pair_multiple N s p = point ((s * p.u) % N) ((s * p.v) % N)
 
 -- two pairs name one point where the second is the first times a unit
 pub record SamePoint (N : ℕ) (p q : Point) : Type 0 where
@@ -61,11 +60,11 @@ least p (q ∷ qs) = least (earlier p q) qs
 
 -- the pairs below N that name the point p
 abbrev pub names : ℕ → Point → List Point
-names N p = map (λ s. scaled N s p) (units N)
+names N p = map (λ s. pair_multiple N s p) (units N)
 
 -- the least pair below N that names the point p
 unfoldable pub normal_form : ℕ → Point → Point
-normal_form N p = least (scaled N 1 p) (names N p)
+normal_form N p = least (pair_multiple N 1 p) (names N p)
 
 -- the test that two pairs are one
 abbrev pub is_same : Point → Point → Bool
@@ -95,10 +94,6 @@ symbol_at N k = unwrap_or (slice_get (symbols N) k) (point 0 0)
 unfoldable pub number : ℕ → Point → ℕ
 number N p = position_or_len (is_same p) (symbols N)
 
--- the residue of an integer
-abbrev pub residue : ℕ → ℤ → ℕ
-residue N z = unsigned_abs (int_rem_euclid z (pos N))
-
 -- the pair of the residues of two integers
 abbrev pub reduced : ℕ → ℤ → ℤ → Point
-reduced N u v = point (residue N u) (residue N v)
+reduced N u v = point (residue_of N u) (residue_of N v)

@@ -5,15 +5,15 @@
 --                          number m of symbols, and the T triple of k - m from m on, for k below 2 m
 use Rattle.std.specs.Prelude.{ℕ, ◌-◌, List, [], ◌∷◌, length, nat_lt, if◌then◌else◌}
 use Rattle.p1_normal.specs.Points.{symbols}
-use Rattle.p1_normal.specs.Actions.{moved, matrix_s, matrix_t}
+use Rattle.p1_normal.specs.Actions.{image_number, matrix_s, matrix_t}
 
 -- the symbols of x + x S
 abbrev pub s_pair : ℕ → ℕ → List ℕ
-s_pair N k = k ∷ moved N k matrix_s ∷ []
+s_pair N k = k ∷ image_number N k matrix_s ∷ []
 
 -- the symbols of x + x T + x T T
 abbrev pub t_triple : ℕ → ℕ → List ℕ
-t_triple N k = k ∷ moved N k matrix_t ∷ moved N (moved N k matrix_t) matrix_t ∷ []
+t_triple N k = k ∷ image_number N k matrix_t ∷ image_number N (image_number N k matrix_t) matrix_t ∷ []
 
 -- the symbols of relation k
 abbrev pub relation_symbols : ℕ → ℕ → List ℕ

@@ -1,6 +1,7 @@
 ghost use Rattle.std.specs.Prelude.{◌≡◌, ◌<◌, ◌≤◌, ◌+ℤ◌, ◌*◌, ◌*ℤ◌, pos, ℕ, unsigned_abs};
 ghost use Rattle.p1_normal.specs.Actions.{image, IsSmall};
-ghost use Rattle.p1_normal.specs.Points.{residue, IsBelow};
+ghost use Rattle.linear_algebra.specs.Integers.{residue_of};
+ghost use Rattle.p1_normal.specs.Points.{IsBelow};
 
 use crate::level::MAX_LEVEL;
 use crate::matrix::{MAX_ENTRY, Matrix};
@@ -21,7 +22,7 @@ fn part(n: u32, u: u32, x: i32, v: u32, y: i32) -> u32
     requires level { (0 < n) × (n ≤ MAX_LEVEL) }
     requires numbers { (u ≤ MAX_LEVEL) × (v ≤ MAX_LEVEL) }
     requires entries { (unsigned_abs x ≤ MAX_ENTRY) × (unsigned_abs y ≤ MAX_ENTRY) }
-    ensures residue { result ≡ residue n (pos u *ℤ x +ℤ pos v *ℤ y) }
+    ensures residue { result ≡ residue_of n (pos u *ℤ x +ℤ pos v *ℤ y) }
     ensures below { result < n }
 {
     let sum = times(u, x) + times(v, y);

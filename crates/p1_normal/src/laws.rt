@@ -4,6 +4,8 @@ ghost use Rattle.std.specs.Int.{IsGcd};
 ghost use Rattle.std.specs.List.{range_with_len};
 ghost use Rattle.p1_normal.specs.declared.matrix.Matrix.{Matrix};
 ghost use Rattle.p1_normal.specs.declared.point.Point.{Point};
+ghost use Rattle.p1_normal.specs.declared.level.TheConstants.{MAX_LEVEL};
+ghost use Rattle.p1_normal.specs.declared.matrix.TheConstants.{MAX_DET, MAX_ENTRY};
 ghost use Rattle.p1_normal.specs.Units.{gcd, IsUnit};
 ghost use Rattle.p1_normal.specs.Points.{
   point,
@@ -23,12 +25,19 @@ ghost use Rattle.p1_normal.specs.Actions.{
   image,
   product,
   IsInvertible,
-  moved,
+  image_number,
   matrix_s,
   matrix_t,
   matrix_u,
   matrix_star,
 };
+
+/// The limits: levels go up to 500, determinants to 200, and entries of matrices to magnitude 1000.
+pub fn limits()
+    ensures level { MAX_LEVEL ≡ 500 }
+    ensures determinant { MAX_DET ≡ 200 }
+    ensures entry { MAX_ENTRY ≡ 1000 }
+{}
 
 /// The greatest common divisor, and units modulo N: Bezout; a unit is what is coprime to N; products.
 pub fn unit_laws()
@@ -83,26 +92,26 @@ pub fn action_laws()
 /// What an invertible matrix does to the numbers of symbols.
 pub fn number_laws()
     ensures below { (N k : ℕ) (m : Matrix) → k < length (symbols N) → IsInvertible N m →
-        moved N k m < length (symbols N) }
+        image_number N k m < length (symbols N) }
     ensures symbol { (N k : ℕ) (m : Matrix) → k < length (symbols N) → IsInvertible N m →
-        symbol_at N (moved N k m) ≡ action N (symbol_at N k) m }
+        symbol_at N (image_number N k m) ≡ action N (symbol_at N k) m }
     ensures product { (N k : ℕ) (m w : Matrix) → k < length (symbols N) → IsInvertible N m →
-        moved N (moved N k m) w ≡ moved N k (product m w) }
+        image_number N (image_number N k m) w ≡ image_number N k (product m w) }
 {}
 
 /// S twice, T three times, U N times and star twice are the identity on symbols; star commutes with
 /// S; and star, then T, then star is S, then T twice, then S.
 pub fn order_laws()
-    ensures s_twice { (N k : ℕ) → k < length (symbols N) → moved N (moved N k matrix_s) matrix_s ≡ k }
+    ensures s_twice { (N k : ℕ) → k < length (symbols N) → image_number N (image_number N k matrix_s) matrix_s ≡ k }
     ensures t_thrice { (N k : ℕ) → k < length (symbols N) →
-        moved N (moved N (moved N k matrix_t) matrix_t) matrix_t ≡ k }
-    ensures u_round { (N k : ℕ) → k < length (symbols N) → iterate (λ j. moved N j matrix_u) N k ≡ k }
-    ensures star_twice { (N k : ℕ) → k < length (symbols N) → moved N (moved N k matrix_star) matrix_star ≡ k }
+        image_number N (image_number N (image_number N k matrix_t) matrix_t) matrix_t ≡ k }
+    ensures u_round { (N k : ℕ) → k < length (symbols N) → iterate (λ j. image_number N j matrix_u) N k ≡ k }
+    ensures star_twice { (N k : ℕ) → k < length (symbols N) → image_number N (image_number N k matrix_star) matrix_star ≡ k }
     ensures star_s { (N k : ℕ) → k < length (symbols N) →
-        moved N (moved N k matrix_star) matrix_s ≡ moved N (moved N k matrix_s) matrix_star }
+        image_number N (image_number N k matrix_star) matrix_s ≡ image_number N (image_number N k matrix_s) matrix_star }
     ensures star_t { (N k : ℕ) → k < length (symbols N) →
-        moved N (moved N (moved N k matrix_star) matrix_t) matrix_star
-        ≡ moved N (moved N (moved N (moved N k matrix_s) matrix_t) matrix_t) matrix_s }
+        image_number N (image_number N (image_number N k matrix_star) matrix_t) matrix_star
+        ≡ image_number N (image_number N (image_number N (image_number N k matrix_s) matrix_t) matrix_t) matrix_s }
 {}
 
 /// The symbols of small levels, written out: (0:1) and the (1:v) come first.

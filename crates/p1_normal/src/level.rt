@@ -1,5 +1,5 @@
 ghost use Rattle.std.specs.Prelude.{◌≡◌, ◌<◌};
-ghost use Rattle.p1_normal.specs.Points.{residue};
+ghost use Rattle.linear_algebra.specs.Integers.{residue_of};
 
 use crate::image::image_of;
 use crate::matrix::Matrix;
@@ -54,6 +54,7 @@ impl Model for Level {
 }
 
 impl Level {
+    ghost use Rattle.p1_normal.specs.declared.level.LevelFault.TheVariants.{OutOfMemory as Memory};
     ghost use Rattle.std.specs.Prelude.{◌≡◌, ◌<◌, ◌≤◌, ◌*◌, ◌⊎◌, ◌↔◌, IsErrOf, IfOk, IfErr, IsOk, length};
     ghost use Rattle.p1_normal.specs.Points.{
       reduced,
@@ -66,7 +67,7 @@ impl Level {
     ghost use Rattle.p1_normal.specs.Actions.{
       IsInvertible,
       IsSmall,
-      moved,
+      image_number,
       matrix_s,
       matrix_t,
       matrix_u,
@@ -77,6 +78,7 @@ impl Level {
     pub fn open(alloc: Global, n: u32) -> Result<Level, LevelFault>
         ensures limit { IsErrOf result (LevelFault.Limit n) ↔ ((n ≡ 0) ⊎ (MAX_LEVEL < n)) }
         ensures level { IfOk result (λ l. l ≡ n) }
+        ensures faults { IfErr result (λ e. (e ≡ Memory) ⊎ (e ≡ LevelFault.Limit n)) }
     {
         if n == 0 || n > MAX_LEVEL {
             return Err(LevelFault::Limit { n });
@@ -149,7 +151,7 @@ impl Level {
         requires place { k < length (symbols self.now) }
         requires coprime { IsInvertible self.now matrix.now }
         requires entries { IsSmall matrix.now }
-        ensures number { result ≡ moved self.now k matrix.now }
+        ensures number { result ≡ image_number self.now k matrix.now }
         ensures below { result < length (symbols self.now) }
     {
         let image = image_of(self.n, self.symbol(k), matrix);
@@ -159,7 +161,7 @@ impl Level {
     /// The number of symbol k times S = [[0, -1], [1, 0]]: (u:v) becomes (v:-u).
     pub fn s_of(&self, k: u32) -> u32
         requires place { k < length (symbols self.now) }
-        ensures number { result ≡ moved self.now k matrix_s }
+        ensures number { result ≡ image_number self.now k matrix_s }
         ensures below { result < length (symbols self.now) }
     {
         self.act(k, &Matrix::new(0, -1, 1, 0))
@@ -168,7 +170,7 @@ impl Level {
     /// The number of symbol k times T = [[0, -1], [1, -1]]: (u:v) becomes (v:-u-v).
     pub fn t_of(&self, k: u32) -> u32
         requires place { k < length (symbols self.now) }
-        ensures number { result ≡ moved self.now k matrix_t }
+        ensures number { result ≡ image_number self.now k matrix_t }
         ensures below { result < length (symbols self.now) }
     {
         self.act(k, &Matrix::new(0, -1, 1, -1))
@@ -177,7 +179,7 @@ impl Level {
     /// The number of symbol k times U = [[1, 1], [0, 1]]: (u:v) becomes (u:u+v).
     pub fn u_of(&self, k: u32) -> u32
         requires place { k < length (symbols self.now) }
-        ensures number { result ≡ moved self.now k matrix_u }
+        ensures number { result ≡ image_number self.now k matrix_u }
         ensures below { result < length (symbols self.now) }
     {
         self.act(k, &Matrix::new(1, 1, 0, 1))
@@ -186,7 +188,7 @@ impl Level {
     /// The number of symbol k times [[-1, 0], [0, 1]], the star involution: (u:v) becomes (-u:v).
     pub fn star_of(&self, k: u32) -> u32
         requires place { k < length (symbols self.now) }
-        ensures number { result ≡ moved self.now k matrix_star }
+        ensures number { result ≡ image_number self.now k matrix_star }
         ensures below { result < length (symbols self.now) }
     {
         self.act(k, &Matrix::new(-1, 0, 0, 1))
@@ -196,7 +198,7 @@ impl Level {
 // The residue of an integer.
 fn residue_of(x: i64, n: u32) -> u32
     requires { 0 < n }
-    ensures residue { result ≡ residue n x }
+    ensures residue { result ≡ residue_of n x }
     ensures below { result < n }
 {
     x.rem_euclid(i64::from(n)) as u32

@@ -15,8 +15,8 @@ mod tests;
 
 pub use divisor::gcd;
 pub use laws::{
-    action_laws, normal_form_laws, number_laws, order_laws, point_laws, small_levels, symbol_laws,
-    unit_laws,
+    action_laws, limits, normal_form_laws, number_laws, order_laws, point_laws, small_levels,
+    symbol_laws, unit_laws,
 };
 pub use level::{Level, LevelFault, MAX_LEVEL};
 pub use matrix::{MAX_DET, MAX_ENTRY, Matrix};

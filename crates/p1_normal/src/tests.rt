@@ -88,13 +88,13 @@ fn points_and_moves(rt: HostRuntime) -> Result<(), Fail> {
     let four = Level::open(rt.alloc(), 4)?;
     assert_eq!(rt; four.normal(2, 3), Ok(Point { u: 2, v: 1 }));
     assert_eq!(rt; four.normal(2, i64::MIN), Err(NotASymbol { g: 2 }));
-    for (k, moved) in [
+    for (k, image) in [
         (0, (1, 11, 0, 0)),
         (1, (0, 0, 2, 1)),
         (4, (8, 7, 5, 9)),
         (11, (2, 1, 1, 2)),
     ] {
-        assert_eq!(rt; moves(&level, k), Some(moved), "of {k}");
+        assert_eq!(rt; moves(&level, k), Some(image), "of {k}");
     }
     assert_eq!(rt; doubled(&level, 3), Some(8));
     Ok(())

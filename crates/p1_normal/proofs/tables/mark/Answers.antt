@@ -1,6 +1,6 @@
 use Rattle.std.proofs.Common.{sym, ap, ◌≡◌, ◌<◌, ◌+◌, subst, arith, length, get_or, set}
 use Rattle.p1_normal.specs.Units.{fixing}
-use Rattle.p1_normal.specs.Points.{scaled}
+use Rattle.p1_normal.specs.Points.{pair_multiple}
 use Rattle.p1_normal.specs.Tables.{place}
 use Rattle.p1_normal.proofs.UnitLists.{fixing_below}
 use Rattle.p1_normal.proofs.Marking.{Marked, marked_more, marked_all, product_small}
@@ -15,7 +15,7 @@ overflow_mul-v c = omega (arith, product_small c.args.n (get_or c.args.kept.now 
 pub loop-s-preserved : goal.loop-s-preserved
 loop-s-preserved c =
     let within : c.loop-s.s-index < length (fixing c.args.n c.args.p.u) = omega (arith, c.loop-s-test.true, ap length c.requires.kept) in
-    subst (λ xs. Marked c.args.n c.args.p c.args.number (c.loop-s.s-index + 1) c.args.numbers.now (set c.loop-s.numbers (place c.args.n (scaled c.args.n (get_or xs c.loop-s.s-index 0) c.args.p)) c.args.number)) (sym c.requires.kept)
+    subst (λ xs. Marked c.args.n c.args.p c.args.number (c.loop-s.s-index + 1) c.args.numbers.now (set c.loop-s.numbers (place c.args.n (pair_multiple c.args.n (get_or xs c.loop-s.s-index 0) c.args.p)) c.args.number)) (sym c.requires.kept)
     (marked_more c.args.n c.args.p c.args.number c.loop-s.s-index c.args.numbers.now c.loop-s.numbers c.requires.level.0 c.requires.size within c.loop-s.invariant)
 
 pub returns : goal.returns

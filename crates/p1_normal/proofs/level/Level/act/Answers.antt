@@ -2,7 +2,7 @@ use Rattle.std.proofs.Common.{◌≡◌, ◌∙◌, ℕ, sym, ap, subst}
 use Rattle.p1_normal.specs.declared.point.Point.{Point}
 use Rattle.p1_normal.specs.declared.matrix.Matrix.{Matrix}
 use Rattle.p1_normal.specs.Points.{symbol_at, number, common_divisor, normal_form, IsBelow}
-use Rattle.p1_normal.specs.Actions.{image, moved}
+use Rattle.p1_normal.specs.Actions.{image, image_number}
 use Rattle.p1_normal.proofs.Moves.{symbol_below, coprime_at}
 use Rattle.p1_normal.proofs.level.Level.act.Goals as goal
 
@@ -11,8 +11,8 @@ image_at : (n N k : ℕ) (p q : Point) (m : Matrix) → n ≡ N → p ≡ symbol
 image_at n N k p q m level at is = is ∙ ap (λ x. image x p m) level ∙ ap (λ r. image N r m) at
 
 -- and its number is that of the symbol times the matrix
-number_at : (n N k r : ℕ) (q : Point) (m : Matrix) → n ≡ N → q ≡ image N (symbol_at N k) m → r ≡ number n (normal_form n q) → r ≡ moved N k m
-unfolding moved
+number_at : (n N k r : ℕ) (q : Point) (m : Matrix) → n ≡ N → q ≡ image N (symbol_at N k) m → r ≡ number n (normal_form n q) → r ≡ image_number N k m
+unfolding image_number
 number_at n N k r q m level at is = is ∙ ap (λ x. number x (normal_form x q)) level ∙ ap (λ w. number N (normal_form N w)) at
 
 pub image_of-image-requires-clause-below : goal.image_of-image-requires-clause-below
