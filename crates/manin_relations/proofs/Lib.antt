@@ -2,4 +2,4 @@ pub mod Occurrences
 pub mod RelationVectors
 pub mod RelationLaws
 pub mod RelationLists
-pub mod TraceSums
+pub mod RelationSums

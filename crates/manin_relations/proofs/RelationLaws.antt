@@ -12,7 +12,7 @@ use Rattle.linear_algebra.proofs.Spans.{Each-rows, InSpan-row}
 use Rattle.linear_algebra.proofs.Congruence.{Congruent-zeros}
 use Rattle.linear_algebra.proofs.SparseLaws.{sparse-cons, sparse-one}
 use Rattle.p1_normal.specs.Points.{symbols}
-use Rattle.p1_normal.specs.Actions.{moved, matrix_s, matrix_t}
+use Rattle.p1_normal.specs.Actions.{image_number, matrix_s, matrix_t}
 use Rattle.p1_normal.specs.Relations.{t_triple}
 use Rattle.manin_relations.specs.Relations.{relation, relations, Congruent}
 use Rattle.manin_relations.proofs.Occurrences.{symbols_of_pair, symbols_of_triple}
@@ -42,17 +42,22 @@ sum_of_two p a b = sparse-cons p (a, 1) ((b, 1) ∷ []) ∙ ap (λ v. single p a
 sum_of_three : (p a b d : ℕ) → sparse p (ones 1 (a ∷ b ∷ d ∷ [])) ≡ unit a ⊞ unit b ⊞ unit d
 sum_of_three p a b d = sparse-cons p (a, 1) ((b, 1) ∷ (d, 1) ∷ []) ∙ ap (λ v. single p a 1 ⊞ v) (sum_of_two p b d) ∙ sym (plus_assoc (single p a 1) (single p b 1) (single p d 1))
 
--- the two-term relation of symbol k
-pub Congruent-pair : (p N k : ℕ) → 0 < p → k < length (symbols N) → Congruent {p = p} N (unit k ⊞ unit (moved N k matrix_s)) zeros
-Congruent-pair p N k positive l = subst (λ v. Congruent {p = p} N v zeros)
-    (sym (relation_ones p 1 N k refl) ∙ ap (λ ks. sparse p (ones 1 ks)) (symbols_of_pair N k l) ∙ sum_of_two p k (moved N k matrix_s))
-    (Congruent-relation p N k positive (omega arith))
+-- relation k is the sum of symbol k and its image by S
+pub relation_pair : (p N k : ℕ) → k < length (symbols N) → relation {p = p} N k ≡ unit k ⊞ unit (image_number N k matrix_s)
+relation_pair p N k l = sym (relation_ones p 1 N k refl) ∙ ap (λ ks. sparse p (ones 1 ks)) (symbols_of_pair N k l) ∙ sum_of_two p k (image_number N k matrix_s)
 
--- the three-term relation of symbol k
-pub Congruent-triple : (p N k : ℕ) → 0 < p → k < length (symbols N) → Congruent {p = p} N (unit k ⊞ unit (moved N k matrix_t) ⊞ unit (moved N (moved N k matrix_t) matrix_t)) zeros
-Congruent-triple p N k positive l =
+-- relation m + k is the sum of symbol k and its images by T and T twice
+pub relation_triple : (p N k : ℕ) → k < length (symbols N) → relation {p = p} N (length (symbols N) + k) ≡ unit k ⊞ unit (image_number N k matrix_t) ⊞ unit (image_number N (image_number N k matrix_t) matrix_t)
+relation_triple p N k l =
     let j : ℕ = length (symbols N) + k in
     let back : j - length (symbols N) ≡ k = omega arith in
-    subst (λ v. Congruent {p = p} N v zeros)
-    (sym (relation_ones p 1 N j refl) ∙ ap (λ ks. sparse p (ones 1 ks)) (symbols_of_triple N j (omega arith) ∙ ap (t_triple N) back) ∙ sum_of_three p k (moved N k matrix_t) (moved N (moved N k matrix_t) matrix_t))
-    (Congruent-relation p N j positive (omega arith))
+    sym (relation_ones p 1 N j refl) ∙ ap (λ ks. sparse p (ones 1 ks)) (symbols_of_triple N j (omega arith) ∙ ap (t_triple N) back)
+    ∙ sum_of_three p k (image_number N k matrix_t) (image_number N (image_number N k matrix_t) matrix_t)
+
+-- the two-term relation of symbol k
+pub Congruent-pair : (p N k : ℕ) → 0 < p → k < length (symbols N) → Congruent {p = p} N (unit k ⊞ unit (image_number N k matrix_s)) zeros
+Congruent-pair p N k positive l = subst (λ v. Congruent {p = p} N v zeros) (relation_pair p N k l) (Congruent-relation p N k positive (omega arith))
+
+-- the three-term relation of symbol k
+pub Congruent-triple : (p N k : ℕ) → 0 < p → k < length (symbols N) → Congruent {p = p} N (unit k ⊞ unit (image_number N k matrix_t) ⊞ unit (image_number N (image_number N k matrix_t) matrix_t)) zeros
+Congruent-triple p N k positive l = subst (λ v. Congruent {p = p} N v zeros) (relation_triple p N k l) (Congruent-relation p N (length (symbols N) + k) positive (omega arith))

@@ -3,14 +3,14 @@
 //! crates can speak of the quotient without computing in it.
 #![tactic(auto)]
 
+mod combination;
 mod laws;
 mod list;
 mod row;
 #[cfg(test)]
 mod tests;
-mod trace;
 
+pub use combination::combination_at;
 pub use laws::{relations_are_congruent_to_zero, relations_have_length_m};
 pub use list::Relations;
 pub use row::{relation, relation_at};
-pub use trace::trace_at;

@@ -1,6 +1,6 @@
 use crate::{
-    Relations, relation, relation_at, relations_are_congruent_to_zero, relations_have_length_m,
-    trace_at,
+    Relations, combination_at, relation, relation_at, relations_are_congruent_to_zero,
+    relations_have_length_m,
 };
 use field_table::{Combo, Field};
 use p1_normal::Level;
@@ -87,7 +87,7 @@ fn sum_of_a_trace(rt: HostRuntime) -> Result<(), Fail> {
     for (symbol, value) in [(0, 0), (3, 1), (4, 100), (5, 1), (8, 0)] {
         assert!(rt; symbol < level.count());
         assert_eq!(rt;
-            trace_at(&level, field, &trace, symbol),
+            combination_at(&level, field, &trace, symbol),
             value,
             "at {symbol}"
         );

@@ -1,7 +1,7 @@
 use Rattle.std.proofs.Common.{◌≡◌, ◌-◌, ◌%◌, ◌<◌, ◌≤◌, ℕ, List, [], ◌∷◌, length, sym, ◌∙◌, ap, arith}
 use Rattle.std.proofs.lemmas.Result.{IfOk-weaker}
 use Rattle.p1_normal.specs.Points.{symbols}
-use Rattle.p1_normal.specs.Actions.{moved, matrix_s, matrix_t}
+use Rattle.p1_normal.specs.Actions.{image_number, matrix_s, matrix_t}
 use Rattle.p1_normal.specs.Relations.{relation_symbols, t_triple}
 use Rattle.manin_relations.specs.Relations.{IsSum, IsRelation}
 use Rattle.manin_relations.proofs.Occurrences.{symbols_of_pair, symbols_of_triple}
@@ -9,13 +9,13 @@ use Rattle.manin_relations.proofs.RelationVectors.{ones, IsRelation-from_sum}
 use Rattle.manin_relations.proofs.row.relation.Goals as goal
 
 -- the symbols that the code finds are those of the relation
-pair : (N k m s : ℕ) → m ≡ length (symbols N) → k < m → s ≡ moved N k matrix_s → relation_symbols N k ≡ k ∷ s ∷ []
+pair : (N k m s : ℕ) → m ≡ length (symbols N) → k < m → s ≡ image_number N k matrix_s → relation_symbols N k ≡ k ∷ s ∷ []
 pair N k m s count below is = symbols_of_pair N k (omega arith) ∙ ap (λ i. k ∷ i ∷ []) (sym is)
 
-triple : (N k m t u : ℕ) → m ≡ length (symbols N) → m ≤ k → t ≡ moved N (k - m) matrix_t → u ≡ moved N t matrix_t → relation_symbols N k ≡ (k - m) ∷ t ∷ u ∷ []
+triple : (N k m t u : ℕ) → m ≡ length (symbols N) → m ≤ k → t ≡ image_number N (k - m) matrix_t → u ≡ image_number N t matrix_t → relation_symbols N k ≡ (k - m) ∷ t ∷ u ∷ []
 triple N k m t u count above first second =
     symbols_of_triple N k (omega arith) ∙ ap (λ i. t_triple N (k - i)) (sym count)
-    ∙ ap (λ i. (k - m) ∷ i ∷ moved N i matrix_t ∷ []) (sym first) ∙ ap (λ i. (k - m) ∷ t ∷ i ∷ []) (sym second)
+    ∙ ap (λ i. (k - m) ∷ i ∷ image_number N i matrix_t ∷ []) (sym first) ∙ ap (λ i. (k - m) ∷ t ∷ i ∷ []) (sym second)
 
 pub returns-then-k-m : goal.returns-then-k-m
 returns-then-k-m c =

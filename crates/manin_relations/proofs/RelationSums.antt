@@ -6,10 +6,10 @@ use Rattle.std.proofs.lemmas.Bool.{cases_order, cond-true, cond-false, lt-ltb, l
 use Rattle.std.proofs.lemmas.List.FromFn.{map-range_with_len_more, length-map-range_with_len}
 use Rattle.linear_algebra.specs.Residue.{Residue, residue, ◌⊕◌, ◌⊗◌}
 use Rattle.linear_algebra.specs.Vector.{Vector, combination}
-use Rattle.linear_algebra.proofs.ResidueLaws.{same_residue, values, add-zero, add_comm, add_middle, mul-add, mul_comm, one-mul, zero-mul}
+use Rattle.linear_algebra.proofs.ResidueLaws.{same_residue, values, add-zero, zero-add, add_middle, mul-add, mul-one, mul-zero, residue-add}
 use Rattle.linear_algebra.proofs.Rows.{combination_last}
 use Rattle.p1_normal.specs.Points.{symbols}
-use Rattle.p1_normal.specs.Actions.{moved, matrix_s, matrix_t}
+use Rattle.p1_normal.specs.Actions.{image_number, matrix_s, matrix_t}
 use Rattle.manin_relations.specs.Relations.{relation, relations}
 use Rattle.manin_relations.proofs.Occurrences.{one_where, one_where_equal, one_where_apart, count_by-cons, touching, occurrences_touching, s-lt, t-lt, t-t-lt}
 
@@ -27,36 +27,24 @@ hit-in {p} c n t l = cond-true (nat_lt t n) (c t) (residue p 0) (lt-ltb t n l)
 hit-out : {p : ℕ} (c : Vector p) (n t : ℕ) → n ≤ t → hit c n t ≡ residue p 0
 hit-out {p} c n t l = cond-false (nat_lt t n) (c t) (residue p 0) (le-ltb t n l)
 
-times-zero : {p : ℕ} (a : Residue p) → a ⊗ residue p 0 ≡ residue p 0
-times-zero {p} a = mul_comm a (residue p 0) ∙ zero-mul a
-
-times-one : {p : ℕ} (a : Residue p) → a ⊗ residue p 1 ≡ a
-times-one {p} a = mul_comm a (residue p 1) ∙ one-mul a
-
-zero-add : {p : ℕ} (a : Residue p) → residue p 0 ⊕ a ≡ a
-zero-add {p} a = add_comm (residue p 0) a ∙ add-zero a
-
 -- one more row
 hit-more : {p : ℕ} (c : Vector p) (n t : ℕ) → hit c (n + 1) t ≡ hit c n t ⊕ (c n ⊗ residue p (one_where n t))
 hit-more {p} c n t = elim (cases_order t n) [
   | inl same ↦
       hit-in c (n + 1) t (omega arith) ∙ ap c same
-      ∙ sym (ap (λ r. r ⊕ (c n ⊗ residue p (one_where n t))) (hit-out c n t (omega arith)) ∙ zero-add (c n ⊗ residue p (one_where n t)) ∙ ap (λ k. c n ⊗ residue p k) (one_where_equal n t (sym same)) ∙ times-one (c n))
+      ∙ sym (ap (λ r. r ⊕ (c n ⊗ residue p (one_where n t))) (hit-out c n t (omega arith)) ∙ zero-add (c n ⊗ residue p (one_where n t)) ∙ ap (λ k. c n ⊗ residue p k) (one_where_equal n t (sym same)) ∙ mul-one (c n))
   | inr apart ↦ elim apart [
     | inl before ↦
         hit-in c (n + 1) t (omega arith)
-        ∙ sym (ap (λ r. r ⊕ (c n ⊗ residue p (one_where n t))) (hit-in c n t before) ∙ ap (λ k. c t ⊕ (c n ⊗ residue p k)) (one_where_apart n t (λ e. omega arith)) ∙ ap (λ r. c t ⊕ r) (times-zero (c n)) ∙ add-zero (c t))
+        ∙ sym (ap (λ r. r ⊕ (c n ⊗ residue p (one_where n t))) (hit-in c n t before) ∙ ap (λ k. c t ⊕ (c n ⊗ residue p k)) (one_where_apart n t (λ e. omega arith)) ∙ ap (λ r. c t ⊕ r) (mul-zero (c n)) ∙ add-zero (c t))
     | inr after ↦
         hit-out c (n + 1) t (omega arith)
-        ∙ sym (ap (λ r. r ⊕ (c n ⊗ residue p (one_where n t))) (hit-out c n t (omega arith)) ∙ ap (λ k. residue p 0 ⊕ (c n ⊗ residue p k)) (one_where_apart n t (λ e. omega arith)) ∙ ap (λ r. residue p 0 ⊕ r) (times-zero (c n)) ∙ add-zero (residue p 0))
+        ∙ sym (ap (λ r. r ⊕ (c n ⊗ residue p (one_where n t))) (hit-out c n t (omega arith)) ∙ ap (λ k. residue p 0 ⊕ (c n ⊗ residue p k)) (one_where_apart n t (λ e. omega arith)) ∙ ap (λ r. residue p 0 ⊕ r) (mul-zero (c n)) ∙ add-zero (residue p 0))
   ]
 ]
 
-residue-add : (p a b : ℕ) → residue p a ⊕ residue p b ≡ residue p (a + b)
-residue-add p a b = same_residue (residue p a ⊕ residue p b) (residue p (a + b)) (simp values)
-
 hits-more : {p : ℕ} (c : Vector p) (n : ℕ) (ts : List ℕ) → hits c (n + 1) ts ≡ hits c n ts ⊕ (c n ⊗ residue p (count_by (nat_eq n) ts))
-hits-more {p} c n [] = sym (ap (λ r. residue p 0 ⊕ r) (times-zero (c n)) ∙ add-zero (residue p 0))
+hits-more {p} c n [] = sym (ap (λ r. residue p 0 ⊕ r) (mul-zero (c n)) ∙ add-zero (residue p 0))
 hits-more {p} c n (t ∷ ts) =
     ap (λ r. r ⊕ hits c (n + 1) ts) (hit-more c n t)
     ∙ ap (λ r. (hit c n t ⊕ (c n ⊗ residue p (one_where n t))) ⊕ r) (hits-more c n ts)
@@ -87,12 +75,12 @@ combination_hits p N s (suc n) c s_below l =
 
 -- all relations
 pub combination_relations : (p N s : ℕ) (c : Vector p) → s < length (symbols N) → combination c (relations N) s
-    ≡ c s ⊕ (c (moved N s matrix_s) ⊕ (c (length (symbols N) + s) ⊕ (c (length (symbols N) + moved N s matrix_t) ⊕ (c (length (symbols N) + moved N (moved N s matrix_t) matrix_t) ⊕ residue p 0))))
+    ≡ c s ⊕ (c (image_number N s matrix_s) ⊕ (c (length (symbols N) + s) ⊕ (c (length (symbols N) + image_number N s matrix_t) ⊕ (c (length (symbols N) + image_number N (image_number N s matrix_t) matrix_t) ⊕ residue p 0))))
 combination_relations p N s c l =
     let m : ℕ = length (symbols N) in
-    let by_s : ℕ = moved N s matrix_s in
-    let by_t : ℕ = moved N s matrix_t in
-    let by_t_t : ℕ = moved N by_t matrix_t in
+    let by_s : ℕ = image_number N s matrix_s in
+    let by_t : ℕ = image_number N s matrix_t in
+    let by_t_t : ℕ = image_number N by_t matrix_t in
     let s_within : by_s < m = s-lt N s l in
     let t_within : by_t < m = t-lt N s l in
     let t_t_within : by_t_t < m = t-t-lt N s l in
@@ -100,15 +88,15 @@ combination_relations p N s c l =
     ∙ rw (hit-in c (2 * m) s (omega arith), hit-in c (2 * m) by_s (omega arith), hit-in c (2 * m) (m + s) (omega arith), hit-in c (2 * m) (m + by_t) (omega arith), hit-in c (2 * m) (m + by_t_t) (omega arith)) refl
 
 -- what the code adds up
-pub trace_value : (p N s q m w t u a b d e f : ℕ) (x : Vector p) → s < length (symbols N) → q ≡ p → m ≡ length (symbols N) → w ≡ moved N s matrix_s → t ≡ moved N s matrix_t → u ≡ moved N t matrix_t
+pub sum_value : (p N s q m w t u a b d e f : ℕ) (x : Vector p) → s < length (symbols N) → q ≡ p → m ≡ length (symbols N) → w ≡ image_number N s matrix_s → t ≡ image_number N s matrix_t → u ≡ image_number N t matrix_t
     → residue p a ≡ x s → residue p b ≡ x w → residue p d ≡ x (m + s) → residue p e ≡ x (m + t) → residue p f ≡ x (m + u)
     → residue p ((a + b + (d + e + f)) % q) ≡ combination x (relations N) s
-trace_value p N s q m w t u a b d e f x l level count by_s by_t by_t_t at_s at_w at_ms at_mt at_mu =
+sum_value p N s q m w t u a b d e f x l level count by_s by_t by_t_t at_s at_w at_ms at_mt at_mu =
     let M : ℕ = length (symbols N) in
-    let second : residue p b ≡ x (moved N s matrix_s) = at_w ∙ ap x by_s in
+    let second : residue p b ≡ x (image_number N s matrix_s) = at_w ∙ ap x by_s in
     let third : residue p d ≡ x (M + s) = at_ms ∙ ap (λ i. x (i + s)) count in
-    let fourth : residue p e ≡ x (M + moved N s matrix_t) = at_mt ∙ ap (λ i. x (i + t)) count ∙ ap (λ i. x (M + i)) by_t in
-    let fifth : residue p f ≡ x (M + moved N (moved N s matrix_t) matrix_t) = at_mu ∙ ap (λ i. x (i + u)) count ∙ ap (λ i. x (M + i)) (by_t_t ∙ ap (λ i. moved N i matrix_t) by_t) in
+    let fourth : residue p e ≡ x (M + image_number N s matrix_t) = at_mt ∙ ap (λ i. x (i + t)) count ∙ ap (λ i. x (M + i)) by_t in
+    let fifth : residue p f ≡ x (M + image_number N (image_number N s matrix_t) matrix_t) = at_mu ∙ ap (λ i. x (i + u)) count ∙ ap (λ i. x (M + i)) (by_t_t ∙ ap (λ i. image_number N i matrix_t) by_t) in
     ap (λ i. residue p ((a + b + (d + e + f)) % i)) level
     ∙ spread a b d e f
     ∙ rw (at_s, second, third, fourth, fifth) (sym (combination_relations p N s x l))
