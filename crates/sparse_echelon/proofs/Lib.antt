@@ -1,5 +1,7 @@
 pub mod Answering
-pub mod Cleared
+pub mod ClearedRows
+pub mod Occurring
+pub mod Relisting
+pub mod Repeating
 pub mod Selected
 pub mod Steps
-pub mod Tables

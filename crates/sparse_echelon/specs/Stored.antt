@@ -6,14 +6,15 @@
 use Rattle.std.specs.Prelude.{◌≡◌, ◌<◌, ◌≤◌, ◌-◌, ◌^◌, ℕ, List, length, All}
 use Rattle.field_table.specs.Table.{IsListed}
 use Rattle.field_table.specs.Terms.{HasPlacesBelow}
-use Rattle.linear_algebra.specs.Dense.{dense_rows}
+use Rattle.linear_algebra.specs.Sparse.{sparse_rows}
 use Rattle.linear_algebra.specs.Elimination.{IsEliminated}
-use Rattle.sparse_echelon.specs.Leads.{Leads, lead, AreRows}
+use Rattle.field_table.specs.Places.{PlaceList}
+use Rattle.sparse_echelon.specs.Leads.{lead, AreRows}
 use Rattle.sparse_echelon.specs.System.{System, vectors}
 use Rattle.sparse_echelon.specs.declared.stored.Stored.{Stored}
 
-pub record IsStored (s : System) (n : ℕ) (basis logs : List (List ℕ)) (l : Leads) (kept : List ℕ) : Type 0 where
-  pub eliminated : IsEliminated (vectors s) n (dense_rows s.characteristic basis) (dense_rows s.characteristic logs) (lead l) kept
+pub record IsStored (s : System) (n : ℕ) (basis logs : List (List (ℕ × ℕ))) (l : PlaceList) (kept : List ℕ) : Type 0 where
+  pub eliminated : IsEliminated (vectors s) n (sparse_rows s.characteristic basis) (sparse_rows s.characteristic logs) (lead l) kept
   pub width : l.width ≡ s.width
   pub many : length l.places ≡ length basis
   pub basis_rows : AreRows s.characteristic s.width basis

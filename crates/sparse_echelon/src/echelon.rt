@@ -1,12 +1,14 @@
 ghost use Rattle.std.specs.Prelude.{◌≡◌, ◌<◌, ◌-◌, ◌^◌, ◌↔◌, All, IfOk, IsTrue, length, map};
 ghost use Rattle.field_table.specs.Residues.{HasResidues};
 ghost use Rattle.field_table.specs.Terms.{HasPlacesBelow};
-ghost use Rattle.linear_algebra.specs.Coordinates.{IsKeptList, IsReduction};
+ghost use Rattle.linear_algebra.specs.Coordinates.{AreKeptCoefficientsOf, IsKeptList, IsReduction, unit};
 ghost use Rattle.linear_algebra.specs.Echelon.{IsPivot};
-ghost use Rattle.sparse_echelon.specs.System.{IsRank, IsTraceOf, system, vector, vectors};
+ghost use Rattle.linear_algebra.specs.Span.{IsRank};
+ghost use Rattle.linear_algebra.specs.Vector.{minus};
+ghost use Rattle.sparse_echelon.specs.System.{system, vector, vectors};
 
 use crate::elimination::stored_of;
-use crate::reduction::{add_rows_of, put_less};
+use crate::spreading::{spread_remainder, spread_selected};
 use crate::stored::Stored;
 use field_table::{Combo, Field, OutOfMemory};
 use std::alloc::{AllocError, Global};
@@ -51,9 +53,9 @@ fn remembered(alloc: Global, rows: &[Combo]) -> Result<Vec<Snapshot<Combo>>, All
 
 /// Eliminates the rows over the field, whose places are below the width (Cohen, A Course in Computational Algebraic Number
 /// Theory, 2.3). A row that earlier ones don't span is kept: what they leave of it is scaled to 1 at its greatest place, and
-/// that place is cleared from the stored rows. Costs a pass over the width for each given row, and one over the width and
-/// the number of rows for each stored row that a term selects or that is cleared. Keeps width and number of rows words of 4
-/// bytes for each kept row.
+/// that place is cleared from the stored rows that have it. A row that repeats the last one of the same least place is
+/// skipped. Costs two lists over the width, and for each other row a merge of terms for each stored row that a term of it
+/// selects, and for each stored row that is cleared. Keeps the terms of the stored rows and of their coefficients.
 pub fn eliminate(
     alloc: Global,
     field: Field,
@@ -80,7 +82,7 @@ impl Echelon {
     pub fn is_pivot(&self, place: u32) -> bool
         ensures { IsTrue result ↔ IsPivot (vectors self.now) place }
     {
-        self.stored.leads.row_at(place).is_some()
+        self.stored.leads.number_of(place).is_some()
     }
 
     /// The dimension of the span of the rows: the number of pivots, and of kept rows.
@@ -97,8 +99,23 @@ impl Echelon {
         self.stored.kept.as_slice()
     }
 
+    /// The row of the basis whose greatest place is this pivot: the combination that is 1 there less its reduction. So its
+    /// other places are no pivots. Constant time. Takes no memory.
+    pub fn row(&self, place: u32) -> &Combo
+        requires { IsPivot (vectors self.now) place }
+        ensures row { IsReduction (vectors self.now) (unit place) (minus (unit place) (vector self.now result.now)) }
+        ensures places { HasPlacesBelow self.now.width result.now }
+        ensures residues { HasResidues self.now.characteristic result.now }
+    {
+        match self.stored.leads.number_of(place) {
+            Some(row) => &self.stored.basis[row as usize],
+            None => unreachable!(),
+        }
+    }
+
     /// The one combination of places without pivots that differs from x by a combination of the rows
-    /// (`linear_algebra::reductions_are_unique`). Costs a pass over the width, and one more for each term of x at a pivot.
+    /// (`linear_algebra::reductions_are_unique`). Costs a pass over the width, and a step for each term of
+    /// the rows at the pivots of x.
     pub fn reduce(&self, alloc: Global, x: &Combo) -> Result<Combo, OutOfMemory>
         requires places { HasPlacesBelow self.now.width x.now }
         requires residues { HasResidues self.now.characteristic x.now }
@@ -108,11 +125,10 @@ impl Echelon {
         ensures residues { IfOk result (λ y. HasResidues self.now.characteristic y) }
     {
         let mut left = vec![in alloc; 0; self.width as usize]?;
-        put_less(
+        spread_remainder(
             self.field,
             &self.stored.leads,
             &self.stored.basis,
-            x.terms(),
             x.terms(),
             &mut left,
         );
@@ -120,18 +136,18 @@ impl Echelon {
     }
 
     /// The one list of coefficients over kept rows, each at the number of its row, with which the rows add up to x less
-    /// its reduction (`linear_algebra::kept_coefficients_are_unique`). Costs a pass over the number of rows, and one more
-    /// for each term of x at a pivot.
+    /// its reduction (`linear_algebra::kept_coefficients_are_unique`). Costs a pass over the number of rows, and a step
+    /// for each coefficient of the rows at the pivots of x.
     pub fn trace(&self, alloc: Global, x: &Combo) -> Result<Combo, OutOfMemory>
         requires places { HasPlacesBelow self.now.width x.now }
         requires residues { HasResidues self.now.characteristic x.now }
         ensures trace { IfOk result (λ c.
-            IsTraceOf (vectors self.now) (vector self.now x.now) (vector self.now c)) }
+            AreKeptCoefficientsOf (vectors self.now) (vector self.now x.now) (vector self.now c)) }
         ensures rows { IfOk result (λ c. HasPlacesBelow (length self.now.rows) c) }
         ensures residues { IfOk result (λ c. HasResidues self.now.characteristic c) }
     {
         let mut coefficients = vec![in alloc; 0; self.given.len()]?;
-        add_rows_of(
+        spread_selected(
             self.field,
             1,
             &self.stored.leads,

@@ -1,137 +1,170 @@
-ghost use Rattle.std.specs.Prelude.{◌≡◌, ℕ, ◌<◌, ◌+◌, ◌-◌, ◌^◌, ◌∷◌, [], All, IfOk, OnOk, length, slice_index, slice_index_or};
-ghost use Rattle.field_table.specs.Residues.{AreResidues, HasResidues};
+ghost use Rattle.std.specs.Prelude.{◌≡◌, ◌<◌, ◌+◌, ◌-◌, ◌^◌, ℕ, [], All, IfOk, OnOk, length, slice_index_or};
+ghost use Rattle.field_table.specs.Residues.{HasResidues};
 ghost use Rattle.field_table.specs.Terms.{HasPlacesBelow};
 ghost use Rattle.linear_algebra.specs.Coordinates.{unit};
-ghost use Rattle.linear_algebra.specs.Dense.{dense, dense_rows};
 ghost use Rattle.linear_algebra.specs.Echelon.{remainder};
 ghost use Rattle.linear_algebra.specs.Residue.{residue};
-ghost use Rattle.linear_algebra.specs.Sparse.{sparse};
+ghost use Rattle.linear_algebra.specs.Sparse.{IsCombo, sparse, sparse_rows};
 ghost use Rattle.linear_algebra.specs.Vector.{◌⊡◌, combination, minus};
-ghost use Rattle.sparse_echelon.specs.Leads.{AreRows, at_leads, lead};
+ghost use Rattle.sparse_echelon.specs.Leads.{at_leads, lead};
+ghost use Rattle.sparse_echelon.specs.Occurrences.{AreOccurrences};
+ghost use Rattle.sparse_echelon.specs.Repeats.{AreBefore};
 ghost use Rattle.sparse_echelon.specs.Stored.{Stores};
 ghost use Rattle.sparse_echelon.specs.System.{system};
 
-use crate::lead_table::LeadTable;
-use crate::reduction::{greatest_place, put_less};
-use crate::row::Row;
+use crate::occurrences::{add_row, no_rows};
+use crate::repeats::{is_repeated, remember};
+use crate::row_numbers::RowNumbers;
+use crate::selection::plus_selected;
 use crate::stored::Stored;
-use field_table::{Combo, Field, OutOfMemory, scale};
+use field_table::{Combo, Field, OutOfMemory, PlaceTable, product};
 use std::alloc::Global;
+use std::mem;
 
-// The list times the factor.
-fn scaled(
+// The coefficients of a new row of the basis: of what the row of these terms, with this number, leaves, times the factor.
+fn log_of(
     alloc: Global,
     field: Field,
     factor: u32,
-    numbers: &[u32],
-) -> Result<Vec<u32>, OutOfMemory>
-    requires factor { factor < field }
-    requires residues { AreResidues field numbers.now }
-    ensures product { IfOk result (λ v. dense field v.items ≡ residue field factor ⊡ dense field numbers.now) }
-    ensures residues { IfOk result (λ v. AreResidues field v.items) }
-    ensures length { IfOk result (λ v. length v.items ≡ length numbers.now) }
-{
-    let mut product = Vec::from_slice(alloc, numbers)?;
-    scale(field, &mut product, factor);
-    Ok(product)
-}
-
-// Puts the coefficients of a new row of the basis into the list: of what the row of these terms, with this number, leaves,
-// times the factor.
-fn put_log(
-    field: Field,
-    factor: u32,
-    leads: &LeadTable,
-    logs: &[Row],
+    leads: &PlaceTable,
+    logs: &[Combo],
     terms: &[(u32, u32)],
     number: u32,
-    log: &mut [u32],
-)
+) -> Result<Combo, OutOfMemory>
     requires factor { factor < field }
-    requires logs { AreRows field (length log.old) logs.now }
+    requires logs { All (HasResidues field) logs.now }
     requires many { length leads.now.places ≡ length logs.now }
     requires residues { HasResidues field terms.now }
-    requires number { number < length log.old }
-    ensures log { dense field log.new ≡ residue field factor
-        ⊡ minus (unit number) (combination (at_leads leads.now (sparse field terms.now)) (dense_rows field logs.now)) }
-    ensures residues { AreResidues field log.new }
+    ensures log { IfOk result (λ z. sparse field z ≡ residue field factor
+        ⊡ minus (unit number) (combination (at_leads leads.now (sparse field terms.now)) (sparse_rows field logs.now))) }
+    ensures residues { IfOk result (λ z. HasResidues field z) }
+    ensures rows { IfOk result (λ z. (n : ℕ) → number < n → All (HasPlacesBelow n) logs.now → HasPlacesBelow n z) }
 {
-    put_less(field, leads, logs, terms, &[(number, 1)], log);
-    scale(field, log, factor);
+    let log = plus_selected(
+        alloc,
+        field,
+        &[(number, 1)],
+        field.neg(1),
+        leads,
+        logs,
+        terms,
+    )?;
+    product(alloc, field, factor, log.terms())
 }
 
-// Keeps row n, which leaves these numbers, with this greatest place.
+// Keeps row n, which leaves these terms.
 fn keep(
     alloc: Global,
     field: Field,
     stored: &mut Stored,
+    occurrences: &mut [RowNumbers],
     rows: &[Combo],
     n: usize,
-    left: &[u32],
-    place: usize,
+    left: &[(u32, u32)],
 ) -> Result<(), OutOfMemory>
     requires number { n < length rows.now }
     requires count { length rows.now < u32.MAX }
     requires row_residues { All (HasResidues field) rows.now }
-    requires width { length left.now < 2 ^ 32 }
-    requires stored { Stores (system field (length left.now) rows.now) n stored.old }
-    requires left { dense field left.now ≡ remainder (dense_rows field stored.old.basis.items)
+    requires stored { Stores (system field (length occurrences.old) rows.now) n stored.old }
+    requires occurrences { AreOccurrences field stored.old.basis.items stored.old.leads occurrences.old }
+    requires left { sparse field left.now ≡ remainder (sparse_rows field stored.old.basis.items)
         (lead stored.old.leads) (sparse field (slice_index_or rows.now n [])) }
-    requires residues { AreResidues field left.now }
-    requires place { place < length left.now }
-    requires some { 0 < slice_index left.now place }
-    requires beyond { (i : ℕ) → place < i → slice_index left.now i ≡ 0 }
-    ensures { OnOk result (Stores (system field (length left.now) rows.now) (n + 1) stored.new) }
+    requires combo { IsCombo left.now }
+    requires residues { HasResidues field left.now }
+    requires places { HasPlacesBelow (length occurrences.old) left.now }
+    requires some { 0 < length left.now }
+    ensures stored { OnOk result (Stores (system field (length occurrences.old) rows.now) (n + 1) stored.new) }
+    ensures occurrences { OnOk result (AreOccurrences field stored.new.basis.items stored.new.leads occurrences.new) }
 {
     let number = n as u32;
-    let inverse = field.inverse(left[place]).unwrap();
-    let row = scaled(alloc, field, inverse, left)?;
-    let mut log = vec![in alloc; 0; rows.len()]?;
-    let given = &rows[n];
-    put_log(
+    let (place, last) = left[left.len() - 1];
+    let inverse = field.inverse(last).unwrap();
+    let row = product(alloc, field, inverse, left)?;
+    let log = log_of(
+        alloc,
         field,
         inverse,
         &stored.leads,
         &stored.logs,
-        given.terms(),
+        rows[n].terms(),
         number,
-        &mut log,
-    );
-    stored.clear(field, place, &row, &log);
-    stored.push(row, log, place as u32, number)?;
+    )?;
+    let numbers = mem::replace(&mut occurrences[place as usize], RowNumbers::none(alloc));
+    stored.clear(
+        alloc,
+        field,
+        numbers.as_slice(),
+        place,
+        &row,
+        &log,
+        occurrences,
+    )?;
+    add_row(occurrences, row.terms(), stored.basis.len() as u32)?;
+    stored.push(row, log, place, number)?;
     Ok(())
 }
 
-// Eliminates row n after the rows before it. The list is room for what it leaves.
+// Eliminates row n after the rows before it.
 fn eliminate_row(
     alloc: Global,
     field: Field,
     stored: &mut Stored,
+    occurrences: &mut [RowNumbers],
     rows: &[Combo],
     n: usize,
-    left: &mut [u32],
 ) -> Result<(), OutOfMemory>
     requires number { n < length rows.now }
     requires count { length rows.now < u32.MAX }
-    requires places { All (HasPlacesBelow (length left.old)) rows.now }
+    requires places { All (HasPlacesBelow (length occurrences.old)) rows.now }
     requires row_residues { All (HasResidues field) rows.now }
-    requires width { length left.old < 2 ^ 32 }
-    requires stored { Stores (system field (length left.old) rows.now) n stored.old }
-    ensures { OnOk result (Stores (system field (length left.old) rows.now) (n + 1) stored.new) }
+    requires stored { Stores (system field (length occurrences.old) rows.now) n stored.old }
+    requires occurrences { AreOccurrences field stored.old.basis.items stored.old.leads occurrences.old }
+    ensures stored { OnOk result (Stores (system field (length occurrences.old) rows.now) (n + 1) stored.new) }
+    ensures occurrences { OnOk result (AreOccurrences field stored.new.basis.items stored.new.leads occurrences.new) }
 {
-    let row = &rows[n];
-    put_less(
+    let terms = rows[n].terms();
+    let left = plus_selected(
+        alloc,
         field,
+        terms,
+        field.neg(1),
         &stored.leads,
         &stored.basis,
-        row.terms(),
-        row.terms(),
-        left,
-    );
-    match greatest_place(left) {
-        Some(place) => keep(alloc, field, stored, rows, n, left, place),
-        None => Ok(()),
+        terms,
+    )?;
+    if left.terms().is_empty() {
+        return Ok(());
     }
+    keep(alloc, field, stored, occurrences, rows, n, left.terms())
+}
+
+// Eliminates row n after the rows before it, but where it repeats one of these: it adds nothing then, and is not read.
+fn eliminate_next(
+    alloc: Global,
+    field: Field,
+    stored: &mut Stored,
+    occurrences: &mut [RowNumbers],
+    last_rows: &mut [Option<u32>],
+    rows: &[Combo],
+    n: usize,
+) -> Result<(), OutOfMemory>
+    requires number { n < length rows.now }
+    requires count { length rows.now < u32.MAX }
+    requires width { length last_rows.old ≡ length occurrences.old }
+    requires places { All (HasPlacesBelow (length occurrences.old)) rows.now }
+    requires row_residues { All (HasResidues field) rows.now }
+    requires stored { Stores (system field (length occurrences.old) rows.now) n stored.old }
+    requires occurrences { AreOccurrences field stored.old.basis.items stored.old.leads occurrences.old }
+    requires before { AreBefore n last_rows.old }
+    ensures stored { OnOk result (Stores (system field (length occurrences.old) rows.now) (n + 1) stored.new) }
+    ensures occurrences { OnOk result (AreOccurrences field stored.new.basis.items stored.new.leads occurrences.new) }
+    ensures before { OnOk result (AreBefore (n + 1) last_rows.new) }
+{
+    if is_repeated(rows, n, last_rows) {
+        return Ok(());
+    }
+    remember(last_rows, rows[n].terms(), n as u32);
+    eliminate_row(alloc, field, stored, occurrences, rows, n)
 }
 
 /// The stored form of the rows.
@@ -146,15 +179,24 @@ pub fn stored_of(
     requires residues { All (HasResidues field) rows.now }
     ensures { IfOk result (Stores (system field width rows.now) (length rows.now)) }
 {
-    let mut left = vec![in alloc; 0; width as usize]?;
+    let mut occurrences = no_rows(alloc, width as usize)?;
+    let mut last_rows = vec![in alloc; None; width as usize]?;
     let mut stored = Stored {
-        leads: LeadTable::none(alloc, width)?,
+        leads: PlaceTable::none(alloc, width)?,
         basis: Vec::new(alloc),
         logs: Vec::new(alloc),
         kept: Vec::new(alloc),
     };
     for n in 0..rows.len() {
-        eliminate_row(alloc, field, &mut stored, rows, n, &mut left)?;
+        eliminate_next(
+            alloc,
+            field,
+            &mut stored,
+            &mut occurrences,
+            &mut last_rows,
+            rows,
+            n,
+        )?;
     }
     Ok(stored)
 }

@@ -3,11 +3,14 @@
 //! nothing of where the rows come from.
 #![tactic(auto)]
 
+mod clearing;
 mod echelon;
 mod elimination;
-mod lead_table;
-mod reduction;
-mod row;
+mod occurrences;
+mod repeats;
+mod row_numbers;
+mod selection;
+mod spreading;
 mod stored;
 #[cfg(test)]
 mod tests;
