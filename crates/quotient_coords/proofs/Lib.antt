@@ -1,10 +1,4 @@
-pub mod Lists
-pub mod Free
-pub mod Numbers
-pub mod Entries
-pub mod Lifting
 pub mod Sums
-pub mod Reading
 pub mod Spaces
 pub mod SymbolRows
 pub mod Unique

@@ -1,15 +1,17 @@
 ghost use Rattle.std.specs.Prelude.{◌≡◌, ◌<◌, ◌≤◌, ◌*◌, ◌↔◌, IfOk, IsTrue, length, slice_index};
 ghost use Rattle.field_table.specs.Residues.{AreResidues, HasResidues};
 ghost use Rattle.field_table.specs.Terms.{HasPlacesBelow};
+ghost use Rattle.linear_algebra.specs.Coordinates.{IsKeptList};
 ghost use Rattle.linear_algebra.specs.Sparse.{sparse};
+ghost use Rattle.manin_relations.specs.Relations.{relations};
 ghost use Rattle.p1_normal.specs.Points.{symbols};
-ghost use Rattle.quotient_coords.specs.Quotient.{HasCoordinates, HasTrace, IsCertificate, dimension, free_symbols, lifted};
+ghost use Rattle.quotient_coords.specs.Quotient.{HasCoordinates, HasKeptCoefficients, IsCertificate, dimension, free_symbols, lifted};
 
 use crate::certificate::{Certificate, adds_up, is_in_range};
 use crate::coordinates::lifted_terms;
-use crate::free_symbols::FreeSymbols;
+use crate::free_symbols::places_without_pivot;
 use crate::symbol_table::{combined, symbol_rows};
-use field_table::{Combo, Field, OutOfMemory, Residues};
+use field_table::{Combo, Field, OutOfMemory, PlaceTable, Residues};
 use manin_relations::Relations;
 use p1_normal::Level;
 use sparse_echelon::{Echelon, eliminate};
@@ -24,7 +26,7 @@ pub struct Space {
     level: Level,
     field: Field,
     echelon: Echelon,
-    free: FreeSymbols,
+    free: PlaceTable,
     rows: Vec<Combo>,
 }
 
@@ -39,20 +41,20 @@ impl Model for Space {
 
     ghost view = { λ s. record { level = s.level; characteristic = s.field } };
 
-    ghost invariant = { λ s. IsSpace s.level s.field s.echelon s.free
+    ghost invariant = { λ s. IsSpace s.level s.field s.echelon s.free.places
         × AreSymbolRows s.level s.field (length (symbols s.level)) s.rows.items };
 }
 
 impl Space {
     /// Eliminates the relations of the level over the field, and makes a table of the coordinates of each
-    /// symbol, which takes a reduction for each.
+    /// symbol from the rows of the echelon form.
     pub fn open(alloc: Global, level: Level, field: Field) -> Result<Space, OutOfMemory>
         ensures { IfOk result (λ s. s ≡ record { level = level; characteristic = field }) }
     {
         let relations = Relations::build(alloc, &level, field)?;
         let echelon = eliminate(alloc, field, relations.rows(), level.count())?;
-        let free = FreeSymbols::of(alloc, &echelon, level.count())?;
-        let rows = symbol_rows(alloc, &echelon, &free, level.count())?;
+        let free = places_without_pivot(alloc, &echelon, level.count())?;
+        let rows = symbol_rows(alloc, field, &echelon, &free, level.count())?;
         Ok(Space {
             level,
             field,
@@ -90,7 +92,15 @@ impl Space {
         ensures symbol { result ≡ slice_index (free_symbols self.now.level self.now.characteristic) j }
         ensures below { result < length (symbols self.now.level) }
     {
-        self.free.symbol(j as usize)
+        self.free.place(j as usize)
+    }
+
+    /// The numbers of the relations that are no combination of those before them, rising.
+    pub fn kept(&self) -> &[u32]
+        ensures { IsKeptList (relations {p = self.now.characteristic} self.now.level)
+            (2 * length (symbols self.now.level)) result.now }
+    {
+        self.echelon.kept()
     }
 
     /// The coordinates of a combination of symbols: the one list of d residues by which the combination
@@ -99,7 +109,7 @@ impl Space {
     pub fn coords(&self, alloc: Global, combo: &Combo) -> Result<Residues, OutOfMemory>
         requires places { HasPlacesBelow (length (symbols self.now.level)) combo.now }
         requires residues { HasResidues self.now.characteristic combo.now }
-        ensures { IfOk result (HasCoordinates self.now.level self.now.characteristic combo.now) }
+        ensures { IfOk result (HasCoordinates self.now combo.now) }
     {
         Ok(Residues::of(combined(
             alloc,
@@ -114,23 +124,36 @@ impl Space {
     pub fn lift(&self, alloc: Global, coords: &[u32]) -> Result<Combo, OutOfMemory>
         requires count { length coords.now ≡ dimension self.now.level self.now.characteristic }
         requires residues { AreResidues self.now.characteristic coords.now }
-        ensures vector { IfOk result (λ c. sparse self.now.characteristic c ≡ lifted self.now.level self.now.characteristic coords.now) }
+        ensures vector { IfOk result (λ c.
+            sparse self.now.characteristic c ≡ lifted self.now.level self.now.characteristic coords.now) }
         ensures places { IfOk result (HasPlacesBelow (length (symbols self.now.level))) }
         ensures residues { IfOk result (HasResidues self.now.characteristic) }
     {
         Ok(Combo::of(lifted_terms(alloc, &self.free, coords)?))
     }
 
-    /// The coordinates of a combination, and the one list of coefficients over the kept relations by
-    /// which these add up to the combination less that of the free symbols. Costs what `coords` costs, a
-    /// pass over 2 m numbers, and one more over these for each term at a bound symbol.
+    /// The one list of coefficients over the kept relations by which these add up to a combination less that of the
+    /// free symbols by its coordinates. Costs a pass over 2 m numbers, and one step for each coefficient of the rows
+    /// at its bound symbols.
+    pub fn kept_coefficients(&self, alloc: Global, combo: &Combo) -> Result<Combo, OutOfMemory>
+        requires places { HasPlacesBelow (length (symbols self.now.level)) combo.now }
+        requires residues { HasResidues self.now.characteristic combo.now }
+        ensures { IfOk result (HasKeptCoefficients self.now combo.now) }
+    {
+        let coefficients = self.echelon.trace(alloc, combo)?;
+        let _rising = coefficients.terms();
+        Ok(coefficients)
+    }
+
+    /// The combination with its coordinates and its coefficients over the kept relations. Costs what `coords` and
+    /// `kept_coefficients` cost, and a copy of the terms.
     pub fn certify(&self, alloc: Global, combo: &Combo) -> Result<Certificate, OutOfMemory>
         requires places { HasPlacesBelow (length (symbols self.now.level)) combo.now }
         requires residues { HasResidues self.now.characteristic combo.now }
         ensures combo { IfOk result (λ c. c.combo ≡ combo.now) }
-        ensures coords { IfOk result (λ c. HasCoordinates self.now.level self.now.characteristic combo.now c.coords) }
-        ensures trace { IfOk result (λ c. HasTrace self.now.level self.now.characteristic combo.now c.trace) }
-        ensures certificate { IfOk result (λ c. IsCertificate self.now.level self.now.characteristic c.combo c.coords c.trace) }
+        ensures coords { IfOk result (λ c. HasCoordinates self.now combo.now c.coords) }
+        ensures trace { IfOk result (λ c. HasKeptCoefficients self.now combo.now c.trace) }
+        ensures certificate { IfOk result (λ c. IsCertificate self.now c.combo c.coords c.trace) }
     {
         let coords = self.coords(alloc, combo)?;
         let trace = self.echelon.trace(alloc, combo)?;
@@ -148,7 +171,7 @@ impl Space {
     /// takes nothing from the elimination but which symbols are free. Takes no memory. Costs six
     /// searches for each symbol.
     pub fn check(&self, c: &Certificate) -> bool
-        ensures { IsTrue result ↔ IsCertificate self.now.level self.now.characteristic c.now.combo c.now.coords c.now.trace }
+        ensures { IsTrue result ↔ IsCertificate self.now c.now.combo c.now.coords c.now.trace }
     {
         is_in_range(&self.level, self.field, &self.free, c)
             && adds_up(&self.level, self.field, &self.free, c)

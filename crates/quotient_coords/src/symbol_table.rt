@@ -4,47 +4,59 @@ ghost use Rattle.field_table.specs.Terms.{HasPlacesBelow};
 ghost use Rattle.linear_algebra.specs.Dense.{dense};
 ghost use Rattle.linear_algebra.specs.Prime.{IsPrime};
 ghost use Rattle.linear_algebra.specs.Sparse.{sparse, sparse_rows};
-ghost use Rattle.linear_algebra.specs.Vector.{◌⊞◌, combination};
+ghost use Rattle.linear_algebra.specs.Span.{Each};
+ghost use Rattle.linear_algebra.specs.Vector.{◌⊞◌, EndsBefore, combination};
+ghost use Rattle.linear_algebra.specs.Coordinates.{free_places};
+ghost use Rattle.sparse_echelon.specs.System.{vectors};
 ghost use Rattle.quotient_coords.specs.Tables.{AreSymbolRows, IsSpace, IsSymbolRow};
 
-use crate::coordinates::entries;
-use crate::free_symbols::FreeSymbols;
-use field_table::{Combo, Field, OutOfMemory, axpy_sparse};
+use crate::coordinates::negated;
+use field_table::{Combo, Field, OutOfMemory, PlaceTable, axpy_sparse};
 use sparse_echelon::Echelon;
 use std::alloc::{AllocError, Global};
 
 // The coordinates of a symbol, as terms over the numbers of the free symbols.
 fn symbol_row(
     alloc: Global,
+    field: Field,
     echelon: &Echelon,
-    free: &FreeSymbols,
+    free: &PlaceTable,
     symbol: u32,
 ) -> Result<Combo, OutOfMemory>
     requires prime { IsPrime echelon.now.characteristic }
+    requires field { field ≡ echelon.now.characteristic }
+    requires rows { Each (EndsBefore echelon.now.width) (vectors echelon.now) }
+    requires free { free.now.places ≡ free_places echelon.now.width (vectors echelon.now) }
     requires place { symbol < echelon.now.width }
-    ensures { IfOk result (λ row. (N p : ℕ) → IsSpace N p echelon.now free.now → IsSymbolRow N p symbol row) }
+    ensures { IfOk result (λ row. (N p : ℕ) → IsSpace N p echelon.now free.now.places → IsSymbolRow N p symbol row) }
 {
-    let unit = Combo::of(vec![in alloc; (symbol, 1); 1]?);
-    let reduced = echelon.reduce(alloc, &unit)?;
-    let values = entries(alloc, free, reduced.terms())?;
-    Combo::from_dense(alloc, &values)
+    let row = match free.number_of(symbol) {
+        Some(number) => vec![in alloc; (number, 1); 1]?,
+        None => negated(alloc, field, free, echelon.row(symbol).terms())?,
+    };
+    Ok(Combo::of(row))
 }
 
-/// The coordinates of each symbol below the width, as terms over the numbers of the free symbols. Takes a
-/// reduction for each symbol.
+/// The coordinates of each symbol below the width, as terms over the numbers of the free symbols. Costs a
+/// step for each term of the rows of the echelon form.
 pub fn symbol_rows(
     alloc: Global,
+    field: Field,
     echelon: &Echelon,
-    free: &FreeSymbols,
+    free: &PlaceTable,
     width: u32,
 ) -> Result<Vec<Combo>, OutOfMemory>
     requires prime { IsPrime echelon.now.characteristic }
+    requires field { field ≡ echelon.now.characteristic }
+    requires rows { Each (EndsBefore echelon.now.width) (vectors echelon.now) }
+    requires free { free.now.places ≡ free_places echelon.now.width (vectors echelon.now) }
     requires width { width ≡ echelon.now.width }
-    ensures { IfOk result (λ rows. (N p : ℕ) → IsSpace N p echelon.now free.now → AreSymbolRows N p width rows.items) }
+    ensures { IfOk result (λ rows. (N p : ℕ) →
+        IsSpace N p echelon.now free.now.places → AreSymbolRows N p width rows.items) }
 {
     let mut rows = Vec::with_capacity(alloc, width as usize)?;
     for symbol in 0..width {
-        rows.push(symbol_row(alloc, echelon, free, symbol)?)?;
+        rows.push(symbol_row(alloc, field, echelon, free, symbol)?)?;
     }
     Ok(rows)
 }
@@ -56,7 +68,8 @@ fn add_rows(field: Field, rows: &[Combo], terms: &[(u32, u32)], values: &mut [u3
     requires row_places { All (HasPlacesBelow (length values.old)) rows.now }
     requires row_residues { All (HasResidues field) rows.now }
     requires values { AreResidues field values.old }
-    ensures sum { dense field values.new ≡ dense field values.old ⊞ combination (sparse field terms.now) (sparse_rows field rows.now) }
+    ensures sum { dense field values.new
+        ≡ dense field values.old ⊞ combination (sparse field terms.now) (sparse_rows field rows.now) }
     ensures residues { AreResidues field values.new }
 {
     for term in terms {
@@ -77,7 +90,8 @@ pub fn combined(
     requires row_places { All (HasPlacesBelow width) rows.now }
     requires row_residues { All (HasResidues field) rows.now }
     ensures count { IfOk result (λ v. length v.items ≡ width) }
-    ensures sum { IfOk result (λ v. dense field v.items ≡ combination (sparse field terms.now) (sparse_rows field rows.now)) }
+    ensures sum { IfOk result (λ v.
+        dense field v.items ≡ combination (sparse field terms.now) (sparse_rows field rows.now)) }
     ensures residues { IfOk result (λ v. AreResidues field v.items) }
 {
     let mut values = vec![in alloc; 0; width as usize]?;

@@ -1,28 +1,30 @@
-use Rattle.std.proofs.Common.{◌≡◌, ◌∷◌, [], ℕ, List, length, get_or, sym, ◌∙◌, ap, subst, arith, rules}
-use Rattle.linear_algebra.specs.Dense.{dense}
-use Rattle.linear_algebra.specs.Sparse.{sparse}
-use Rattle.linear_algebra.specs.Coordinates.{IsReduction}
-use Rattle.field_table.specs.Residues.{AreResidues, HasResidues}
-use Rattle.field_table.specs.Terms.{HasPlacesBelow}
-use Rattle.sparse_echelon.specs.System.{vectors, vector}
-use Rattle.quotient_coords.specs.Tables.{IsSpace, IsSymbolRow}
-use Rattle.quotient_coords.proofs.SymbolRows.{IfOk-three, symbol_row_of_entries}
+use Rattle.std.proofs.Common.{◌≡◌, ◌<◌, sym, ◌∙◌, subst, arith, rules}
+use Rattle.std.specs.List.Sorted.{IsStrictlyIncreasing}
+use Rattle.linear_algebra.proofs.BoundPlaces.{free_places_rising}
+use Rattle.sparse_echelon.specs.System.{vectors}
+use Rattle.quotient_coords.specs.Tables.{IsSymbolRow}
+use Rattle.quotient_coords.proofs.Spaces.{space_characteristic}
+use Rattle.quotient_coords.proofs.SymbolRows.{pivot_unless_free, symbol_row_bound, symbol_row_free}
 use Rattle.quotient_coords.proofs.symbol_table.symbol_row.Goals as goal
+use Rattle.quotient_coords.proofs.symbol_table.symbol_row.Goals.{in-Some+in_ok-row-in-Some, in-None+in_ok-row-in-None}
+
+pub row-requires : goal.row-requires
+row-requires c = pivot_unless_free (omega (arith, c.requires.prime.above_one)) c.args.echelon.now.width
+    (vectors c.args.echelon.now) c.requires.rows c.args.free.now.places c.requires.free c.args.symbol c.requires.place c.in-None.ensures.number
+
+pub negated-requires-clause-free : goal.negated-requires-clause-free
+negated-requires-clause-free c = subst IsStrictlyIncreasing (sym c.requires.free)
+    (free_places_rising c.args.echelon.now.width (vectors c.args.echelon.now))
 
 pub returns : goal.returns
-returns c =
-    let one : c.of-unit.result ≡ (c.args.symbol, 1) ∷ [] = c.of-unit.ensures ∙ c.in_ok-vec.ensures.items_if_clones_equal (search rules) in
-    let values : List ℕ = c.in_ok-values.values.items in
-    IfOk-three c.from_dense.result (λ row. (q : ℕ) → sparse q row ≡ dense q c.deref.result.now) (λ row. (q : ℕ) → AreResidues q c.deref.result.now → HasResidues q row) (λ row. HasPlacesBelow (length c.deref.result.now) row)
-    (λ row. (N p : ℕ) → IsSpace N p c.args.echelon.now c.args.free.now → IsSymbolRow N p c.args.symbol row)
-    (λ row sum residues places N p space.
-    symbol_row_of_entries N p c.args.echelon.now c.args.free.now c.args.symbol c.in_ok-reduced.reduced values row space
-    (subst (λ ts. IsReduction (vectors c.args.echelon.now) (vector c.args.echelon.now ts) (vector c.args.echelon.now c.in_ok-reduced.reduced)) one c.in_ok-reduced.ensures.reduction)
-    c.in_ok-reduced.ensures.places c.in_ok-values.ensures.count
-    (λ q positive h. c.in_ok-values.ensures.residues q positive (subst (HasResidues q) (sym c.terms.ensures.terms) h))
-    c.in_ok-reduced.ensures.residues (omega (arith, c.requires.prime.above_one))
-    (λ q j l. c.in_ok-values.ensures.entries q j l ∙ ap (λ ts. sparse q ts (get_or c.args.free.now j 0)) c.terms.ensures.terms)
-    (λ q. sum q ∙ ap (dense q) c.deref.ensures.value)
-    (λ q h. residues q (subst (AreResidues q) (sym c.deref.ensures.value) h))
-    (subst (λ xs. HasPlacesBelow (length xs) row) c.deref.ensures.value places))
-    c.from_dense.ensures.vector c.from_dense.ensures.residues c.from_dense.ensures.places
+returns c N p space = elim c.match-number_of.branch [
+  | in-Some+in_ok-row-in-Some w ↦
+      let row : c.of.result ≡ w.in_ok-row-in-Some.row.items = rw w.row-is at c.of.ensures in
+      subst (IsSymbolRow N p c.args.symbol) (sym (row ∙ w.in_ok-row-in-Some.ensures.items_if_clones_equal (search rules)))
+      (symbol_row_free N p c.args.echelon.now c.args.free.now.places c.args.symbol _ space (subst (λ q. 1 < q) (space_characteristic N p c.args.echelon.now c.args.free.now.places space) c.requires.prime.above_one) w.in-Some.ensures.number.0 w.in-Some.ensures.number.1)
+  | in-None+in_ok-row-in-None w ↦
+      let row : c.of.result ≡ w.in_ok-row-in-None.row.items = rw w.row-is at c.of.ensures in
+      subst (IsSymbolRow N p c.args.symbol) (sym row)
+      (symbol_row_bound N p c.args.field c.args.echelon.now c.args.free.now.places c.args.symbol w.row.result.now _ space c.requires.field c.requires.place w.in-None.ensures.number w.row.ensures.row w.row.ensures.places
+      w.in_ok-row-in-None.ensures.places w.in_ok-row-in-None.ensures.residues (rw w.terms.ensures.terms at w.in_ok-row-in-None.ensures.entries))
+]
