@@ -1,5 +1,5 @@
 -- The first matrix that does not fit.
-use Rattle.std.proofs.Common.{◌≡◌, ◌+◌, ◌<◌, ◌≤◌, ℕ, Bool, true, false, not, cond, List, length, get_or, Some, None, nat_lt, nat_eq, nat_le, refl, sym, ◌∙◌, ap, inl, inr, below_more, arith, FitsSigned, w64, of_z, to_z, ◌&&◌}
+use Rattle.std.proofs.Common.{◌≡◌, ◌+◌, ◌-◌, ◌^◌, ◌<◌, ◌≤◌, ℕ, Bool, true, false, not, cond, List, length, get_or, Some, None, nat_lt, nat_eq, nat_le, refl, sym, ◌∙◌, ap, inl, inr, below_more, arith, FitsSigned, w64, of_z, to_z, ◌&&◌}
 use Rattle.std.specs.Prelude.{ℤ, pos, ◌+ℤ◌, ◌-ℤ◌, ◌*ℤ◌, unsigned_abs}
 use Rattle.std.specs.List.{position_or_len}
 use Rattle.std.proofs.lemmas.Int.{ints, to_z-of_z}
@@ -120,10 +120,12 @@ all_fit n ms e k l = elim (cases_lt (position_or_len (λ m. not (fits n m)) ms) 
 ]
 
 -- so the list is a set of matrices of determinant n
-pub IsMatrixSet-from_no_fault : (n : ℕ) (ms : List Matrix) → 0 < n → n ≤ MAX_DET → list_fault n ms ≡ None → IsMatrixSet (record { det = n; list = ms })
-IsMatrixSet-from_no_fault n ms some few e = record {
+pub IsMatrixSet-from_no_fault : (n : ℕ) (ms : List Matrix) → 0 < n → n ≤ MAX_DET → length ms < 2 ^ 32 - 1 → list_fault n ms ≡ None
+    → IsMatrixSet (record { det = n; list = ms })
+IsMatrixSet-from_no_fault n ms some limited few e = record {
   positive = some;
-  limited = few;
+  limited = limited;
+  few = few;
   small = All-from_get_or IsSmall ms zero_matrix (λ k l. IsSmall-from_test (get_or ms k zero_matrix) (and_parts (is_small (get_or ms k zero_matrix)) (has_determinant n (get_or ms k zero_matrix)) (all_fit n ms e k l)).0);
   determinants = All-from_get_or (λ m. determinant m ≡ pos n) ms zero_matrix (λ k l. (Decides-int_eq (determinant (get_or ms k zero_matrix)) (pos n)).0 (and_parts (is_small (get_or ms k zero_matrix)) (has_determinant n (get_or ms k zero_matrix)) (all_fit n ms e k l)).1);
 }

@@ -1,8 +1,8 @@
 -- Merel's set holds what its definition asks, and all of it.
-use Rattle.std.proofs.Common.{◌≡◌, ◌+◌, ◌*◌, ◌^◌, ◌<◌, ◌≤◌, ◌↔◌, ℕ, zero, suc, Bool, true, List, [], ◌∷◌, length, get_or, All, refl, sym, ◌∙◌, ap, subst, arith}
+use Rattle.std.proofs.Common.{◌≡◌, ◌+◌, ◌-◌, ◌*◌, ◌^◌, ◌<◌, ◌≤◌, ◌↔◌, ℕ, zero, suc, Bool, true, List, [], ◌∷◌, length, get_or, All, refl, sym, ◌∙◌, ap, subst, arith}
 use Rattle.std.specs.Prelude.{ℤ, pos, negsuc, ◌+ℤ◌, ◌≤ℤ◌, map, filter}
 use Rattle.std.specs.List.{flat_map, Contains}
-use Rattle.std.proofs.Math.Nat.{pow-succ', pow-zero}
+use Rattle.std.proofs.Math.Nat.{mul-le-mul, pow-succ', pow-zero}
 use Rattle.std.proofs.lemmas.Int.{ints}
 use Rattle.std.proofs.lemmas.Bool.{cond_both, false≢true}
 use Rattle.std.proofs.lemmas.List.{length-append}
@@ -170,13 +170,26 @@ length-merel_matrices n =
     (subst (λ k. k ≤ length (quadruples n)) (sym (length-filter (is_merel n) (quadruples n))) (count_by-le-length (is_merel n) (quadruples n)))
 
 -- a member is small
-IsSmall-member : (n : ℕ) (m : Matrix) → n ≤ MAX_DET → IsMerel n m → IsSmall m
+pub IsSmall-member : (n : ℕ) (m : Matrix) → n ≤ MAX_DET → IsMerel n m → IsSmall m
 IsSmall-member n m few h =
     let k = member_entries n m h in
     let sum = entries_sum n k.a k.b k.c k.d k.entries in
     let left = k.entries.left in
     let right = k.entries.right in
     subst IsSmall (sym k.is) (record { a = omega (arith, sum); b = omega (arith, sum); c = omega (arith, sum); d = omega (arith, sum) })
+
+-- within the limit they can be numbered
+merel_matrices_few : (n : ℕ) → n ≤ MAX_DET → length (merel_matrices n) < 2 ^ 32 - 1
+merel_matrices_few n small =
+    let small_next : n + 1 ≤ 201 = omega arith in
+    let square : (n + 1) * (n + 1) ≤ 201 * 201 = mul-le-mul small_next small_next in
+    let bound : ((n + 1) * (n + 1)) * ((n + 1) * (n + 1)) ≤ (201 * 201) * (201 * 201) = mul-le-mul square square in
+    let many : length (merel_matrices n) ≤ (n + 1) ^ 4 = length-merel_matrices n in
+    let same : (n + 1) * ((n + 1) * ((n + 1) * (n + 1))) ≡ (n + 1) ^ 4 = fourth (n + 1) in
+    below (length (merel_matrices n)) ((n + 1) ^ 4) (n + 1) many same bound
+  where
+    below : (k f b : ℕ) → k ≤ f → b * (b * (b * b)) ≡ f → (b * b) * (b * b) ≤ (201 * 201) * (201 * 201) → k < 2 ^ 32 - 1
+    below k f b l e m = omega (arith, l, e, m)
 
 -- Merel's set is a set of matrices of determinant n
 pub IsMatrixSet-merel_matrices : (n : ℕ) (ms : List Matrix) → 0 < n → n ≤ MAX_DET → ms ≡ merel_matrices n → IsMatrixSet (record { det = n; list = ms })
@@ -185,4 +198,5 @@ IsMatrixSet-merel_matrices n ms some few e = subst (λ xs. IsMatrixSet (record {
   limited = few;
   small = λ k d l. IsSmall-member n (get_or (merel_matrices n) k d) few (All-merel_matrices n k d l);
   determinants = λ k d l. (All-merel_matrices n k d l).determinant_is;
+  few = merel_matrices_few n few;
 })

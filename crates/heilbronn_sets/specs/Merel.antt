@@ -2,10 +2,11 @@
 --   quadruples n       the matrices [[a, b], [c, d]] with entries from 0 to n, in lexicographic order of a, b, c, d
 --   is_merel n m       a > b, d > c and a d - b c = n
 --   merel_matrices n   Merel's set of determinant n: the quadruples that pass this test, in their order
---   with_three n a b c, with_row n a b, with_corner n a
---                      its matrices of the first entries a, b, c, of the first row (a, b), and of the first entry a
 --   IsMerel n m        m is an integer matrix with a > b >= 0, d > c >= 0 and a d - b c = n
 --   starts n           those of them with b = 0: each begins a chain, and each chain begins so
+-- For proofs, Merel's set piece by piece:
+--   with_three n a b c, with_row n a b, with_corner n a
+--                      its matrices of the first entries a, b, c, of the first row (a, b), and of the first entry a
 use Rattle.std.specs.Prelude.{◌≡◌, ℕ, ◌+◌, pos, ◌<ℤ◌, ◌≤ℤ◌, Bool, List, map, filter, ◌&&◌, int_lt}
 use Rattle.std.specs.Ordering.{int_eq}
 use Rattle.std.specs.List.{range_with_len, flat_map}

@@ -4,12 +4,12 @@
 --   is_small m         each entry has magnitude at most MAX_ENTRY
 --   has_determinant n m
 --                      the determinant of m is n
---   IsMatrixSet s      n is 1 to MAX_DET, and each matrix of the list is small and has determinant n
+--   IsMatrixSet s      n is 1 to MAX_DET, each matrix of the list is small and has determinant n, and they are fewer than 2^32 - 1
 --   fault_at ms k      what does not fit at place k, where the matrix there does not fit; none at no place
 --   matrix_fault n m k what does not fit at the matrix m at place k: an entry, else the determinant
 --   list_fault n ms    the same at the first matrix that does not fit
 --   set_fault n ms     why a list is no such set: its determinant; else, at the first matrix that does not fit, an entry, else the determinant
-use Rattle.std.specs.Prelude.{◌≡◌, ℕ, ◌<◌, ◌≤◌, pos, unsigned_abs, Bool, not, List, All, position, slice_index_or, Option, Some, None, ◌&&◌, nat_le, if◌then◌else◌}
+use Rattle.std.specs.Prelude.{◌≡◌, ℕ, ◌<◌, ◌≤◌, ◌-◌, ◌^◌, pos, unsigned_abs, Bool, not, List, All, length, position, slice_index_or, Option, Some, None, ◌&&◌, nat_le, if◌then◌else◌}
 use Rattle.std.specs.Ordering.{int_eq}
 use Rattle.p1_normal.specs.declared.matrix.Matrix.{Matrix}
 use Rattle.p1_normal.specs.declared.matrix.TheConstants.{MAX_DET, MAX_ENTRY}
@@ -35,6 +35,7 @@ pub record IsMatrixSet (s : Matrices) : Type 0 where
   pub limited : s.det ≤ MAX_DET
   pub small : All IsSmall s.list
   pub determinants : All (λ m. determinant m ≡ pos s.det) s.list
+  pub few : length s.list < 2 ^ 32 - 1
 
 -- what does not fit at the place of the first matrix that does not
 abbrev pub fault_at : List Matrix → Option ℕ → Option SetFault

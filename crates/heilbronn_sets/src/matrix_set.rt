@@ -97,6 +97,7 @@ impl MatrixSet {
         ensures list { result.now ≡ self.now.list }
         ensures small { All IsSmall self.now.list }
         ensures determinants { All (λ m. determinant m ≡ pos self.now.det) self.now.list }
+        ensures few { length self.now.list < u32.MAX }
     {
         self.list.as_slice()
     }
