@@ -11,7 +11,7 @@ use Rattle.field_table.specs.Residues.{AreResidues}
 use Rattle.field_table.proofs.Lists.{dense_more, dense_start}
 use Rattle.manin_relations.proofs.RelationVectors.{ones, sparse-ones}
 use Rattle.p1_normal.specs.declared.matrix.Matrix.{Matrix}
-use Rattle.p1_normal.specs.Actions.{moved}
+use Rattle.p1_normal.specs.Actions.{image_number}
 use Rattle.hecke_columns.specs.Hecke.{images, symbol_sum}
 
 -- a term of 1 at the image of symbol k by each matrix
@@ -20,13 +20,13 @@ hits N L k = ones 1 (images N L k)
 
 -- they are as many as the matrices
 length-hits : (N : ℕ) (L : List Matrix) (k : ℕ) → length (hits N L k) ≡ length L
-length-hits N L k = length-map (images N L k) (λ j. (j, 1)) ∙ length-map L (moved N k)
+length-hits N L k = length-map (images N L k) (λ j. (j, 1)) ∙ length-map L (image_number N k)
 
 -- the term of matrix i
-get_or-hits : (N : ℕ) (L : List Matrix) (k i : ℕ) (d : Matrix) → i < length L → get_or (hits N L k) i (0, 0) ≡ (moved N k (get_or L i d), 1)
+get_or-hits : (N : ℕ) (L : List Matrix) (k i : ℕ) (d : Matrix) → i < length L → get_or (hits N L k) i (0, 0) ≡ (image_number N k (get_or L i d), 1)
 get_or-hits N L k i d l =
-    get_or-map (λ j. (j, 1)) (images N L k) i 0 (0, 0) (omega (arith, length-map L (moved N k)))
-    ∙ ap (λ j. (j, 1)) (get_or-map (moved N k) L i d 0 l)
+    get_or-map (λ j. (j, 1)) (images N L k) i 0 (0, 0) (omega (arith, length-map L (image_number N k)))
+    ∙ ap (λ j. (j, 1)) (get_or-map (image_number N k) L i d 0 l)
 
 -- their sum counts the images
 sparse-hits : (p N : ℕ) (L : List Matrix) (k : ℕ) → sparse p (hits N L k) ≡ symbol_sum N L k
@@ -43,17 +43,20 @@ pub added_none : (p N : ℕ) (L : List Matrix) (k : ℕ) (start : List ℕ) → 
 added_none p N L k start residues = record { sum = dense_start p 1 start (hits N L k); residues = residues }
 
 -- one more
-pub added_more : (p N : ℕ) (L : List Matrix) (k : ℕ) (start : List ℕ) (i : ℕ) (counts : List ℕ) (d : Matrix) (hit v : ℕ) → i < length L → hit ≡ moved N k (get_or L i d) → hit < length counts
+pub added_more : (p N : ℕ) (L : List Matrix) (k : ℕ) (start : List ℕ) (i : ℕ) (counts : List ℕ) (d : Matrix) (hit v : ℕ) → i < length L
+    → hit ≡ image_number N k (get_or L i d) → hit < length counts
     → v ≡ (get_or counts hit 0 + 1) % p → v < p → AreAdded p N L k start i counts → AreAdded p N L k start (i + 1) (set counts hit v)
 added_more p N L k start i counts d hit v l is_hit within e below h =
     let term = get_or-hits N L k i d l in
     record {
-      sum = dense_more p 1 hit 1 v counts start (hits N L k) i (omega (arith, length-hits N L k)) (ap (λ t. t.0) term ∙ sym is_hit) (ap (λ t. t.1) term) within e h.sum;
+      sum = dense_more p 1 hit 1 v counts start (hits N L k) i (omega (arith, length-hits N L k)) (ap (λ t. t.0) term ∙ sym is_hit)
+          (ap (λ t. t.1) term) within e h.sum;
       residues = All-set (λ x. x < p) counts hit v below h.residues;
     }
 
 -- all of them are the sum of the symbol
-pub added_all : (p N : ℕ) (L : List Matrix) (k : ℕ) (start counts : List ℕ) → AreAdded p N L k start (length L) counts → dense p counts ≡ dense p start ⊞ symbol_sum N L k
+pub added_all : (p N : ℕ) (L : List Matrix) (k : ℕ) (start counts : List ℕ) → AreAdded p N L k start (length L) counts
+    → dense p counts ≡ dense p start ⊞ symbol_sum N L k
 added_all p N L k start counts h =
     h.sum ∙ ap (λ v. dense p start ⊞ v) (one-scale (sparse p (take (length L) (hits N L k)))
     ∙ ap (sparse p) (take_all (length L) (hits N L k) (omega (arith, length-hits N L k))) ∙ sparse-hits p N L k)
