@@ -9,4 +9,7 @@ mod poly;
 
 pub use entry::SplitEntry;
 pub use name::OpName;
-pub use poly::{MAX_COEFFICIENTS, Poly, PolyFault};
+pub use poly::{MAX_COEFFICIENTS, Poly, PolyFault, limit_values};
+
+#[cfg(test)]
+mod tests;
