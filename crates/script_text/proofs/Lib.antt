@@ -1,8 +1,9 @@
-pub mod SessionLemmas
+pub mod FormLemmas
 pub mod ReadingLemmas
 pub mod ScriptLemmas
-pub mod TermLemmas
-pub mod WalkLemmas
+pub mod SessionLemmas
 pub mod TableLemmas
-pub mod FormLemmas
+pub mod TermLemmas
+pub mod TestLemmas
+pub mod WalkLemmas
 pub mod WithinLemmas

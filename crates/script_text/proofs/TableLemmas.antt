@@ -63,17 +63,20 @@ pub find-no_word : (p : Word → Bool) → ((v : Word) → p v ≡ false) → fi
 find-no_word p fails = find-none p every_word fails
 
 -- the least number of a range that passes
-pub find-least : (p : ℕ → Bool) (a n t : ℕ) → a ≤ t → t < a + n → ((k : ℕ) → a ≤ k → k < t → p k ≡ false) → p t ≡ true → find p (range_with_len a n) ≡ Some t
+pub find-least : (p : ℕ → Bool) (a n t : ℕ) → a ≤ t → t < a + n → ((k : ℕ) → a ≤ k → k < t → p k ≡ false) → p t ≡ true
+    → find p (range_with_len a n) ≡ Some t
 find-least p a zero t low high before at = absurd (omega arith)
 find-least p a (suc n) t low high before at =
     elim (cases_lt a t) [
-      | inl less ↦ rw (before a (omega arith) less) (find-least p (a + 1) n t (omega arith) (omega arith) (λ k above below. before k (omega arith) below) at)
+      | inl less ↦
+          rw (before a (omega arith) less) (find-least p (a + 1) n t (omega arith) (omega arith) (λ k above below. before k (omega arith) below) at)
       | inr end ↦ let same : a ≡ t = omega arith in rw (same, at) refl
     ]
 
 pub find-nowhere : (p : ℕ → Bool) (a n : ℕ) → ((k : ℕ) → a ≤ k → k < a + n → p k ≡ false) → find p (range_with_len a n) ≡ None
 find-nowhere p a zero fails = refl
-find-nowhere p a (suc n) fails = rw (fails a (omega arith) (omega arith)) (find-nowhere p (a + 1) n (λ k above below. fails k (omega arith) (omega arith)))
+find-nowhere p a (suc n) fails =
+    rw (fails a (omega arith) (omega arith)) (find-nowhere p (a + 1) n (λ k above below. fails k (omega arith) (omega arith)))
 
 -- the command with this word
 named : List ℕ → Option Word

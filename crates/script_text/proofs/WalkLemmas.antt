@@ -32,7 +32,8 @@ longer [] n h = absurd (omega arith)
 longer (kind ∷ kinds) n h = omega arith
 
 -- one token more on the left
-more : (kinds : List Kind) (repeated : Option Kind) (token : ℕ) (g : Given) (t : List ℕ) (ts : List (List ℕ)) (r : Result Given ℕ) → fits (next_kind kinds repeated) t ≡ true
+more : (kinds : List Kind) (repeated : Option Kind) (token : ℕ) (g : Given) (t : List ℕ) (ts : List (List ℕ)) (r : Result Given ℕ)
+    → fits (next_kind kinds repeated) t ≡ true
     → Outcome (rest kinds) repeated (suc token) (add_kind (next_kind kinds repeated) t g) ts r → Outcome kinds repeated token g (t ∷ ts) r
 more [] repeated token g t ts (Ok h) fit o = record { all = rw (fit) o.all; whole = omega arith; value = o.value }
 more (kind ∷ kinds) repeated token g t ts (Ok h) fit o = record { all = rw (fit) o.all; whole = omega (arith, o.whole); value = o.value }
@@ -47,36 +48,42 @@ more kinds repeated token g t ts (Err n) fit o = record {
   };
 }
 
-pub walk-next : (kinds : List Kind) (repeated : Option Kind) (token : ℕ) (g : Given) (t : List ℕ) (ts : List (List ℕ)) → fits (next_kind kinds repeated) t ≡ true
+pub walk-next : (kinds : List Kind) (repeated : Option Kind) (token : ℕ) (g : Given) (t : List ℕ) (ts : List (List ℕ))
+    → fits (next_kind kinds repeated) t ≡ true
     → walk kinds repeated token g (t ∷ ts) ≡ walk (rest kinds) repeated (suc token) (add_kind (next_kind kinds repeated) t g) ts
 unfolding walk
 walk-next [] repeated token g t ts fit = rw fit refl
 walk-next (kind ∷ kinds) repeated token g t ts fit = rw fit refl
 
-pub walk-stop : (kinds : List Kind) (repeated : Option Kind) (token : ℕ) (g : Given) (t : List ℕ) (ts : List (List ℕ)) → fits (next_kind kinds repeated) t ≡ false
+pub walk-stop : (kinds : List Kind) (repeated : Option Kind) (token : ℕ) (g : Given) (t : List ℕ) (ts : List (List ℕ))
+    → fits (next_kind kinds repeated) t ≡ false
     → walk kinds repeated token g (t ∷ ts) ≡ Err token
 unfolding walk
 walk-stop [] repeated token g t ts fails = rw fails refl
 walk-stop (kind ∷ kinds) repeated token g t ts fails = rw fails refl
 
-pub walk-short : (kinds : List Kind) (repeated : Option Kind) (token : ℕ) (g : Given) → false ≡ eqb (length kinds) 0 → walk kinds repeated token g [] ≡ Err token
+pub walk-short : (kinds : List Kind) (repeated : Option Kind) (token : ℕ) (g : Given) → false ≡ eqb (length kinds) 0
+    → walk kinds repeated token g [] ≡ Err token
 unfolding walk
 walk-short [] repeated token g some = absurd cc
 walk-short (kind ∷ kinds) repeated token g some = refl
 
-pub walk-whole : (kinds : List Kind) (repeated : Option Kind) (token : ℕ) (g : Given) → true ≡ eqb (length kinds) 0 → walk kinds repeated token g [] ≡ Ok g
+pub walk-whole : (kinds : List Kind) (repeated : Option Kind) (token : ℕ) (g : Given) → true ≡ eqb (length kinds) 0
+    → walk kinds repeated token g [] ≡ Ok g
 unfolding walk
 walk-whole [] repeated token g none = refl
 walk-whole (kind ∷ kinds) repeated token g none = absurd (grind arith)
 
-short : (kinds : List Kind) (repeated : Option Kind) (token : ℕ) (t : List ℕ) (ts : List (List ℕ)) → fits (next_kind kinds repeated) t ≡ false → Stopped kinds repeated token (t ∷ ts) token
+short : (kinds : List Kind) (repeated : Option Kind) (token : ℕ) (t : List ℕ) (ts : List (List ℕ)) → fits (next_kind kinds repeated) t ≡ false
+    → Stopped kinds repeated token (t ∷ ts) token
 short kinds repeated token t ts fails = record {
   read = 0;
   place = omega arith;
   stops = record { front = refl; next = λ h. rw fails refl; within = omega arith; unfinished = λ h. absurd (omega arith) };
 }
 
-pub reads : (kinds : List Kind) (repeated : Option Kind) (token : ℕ) (g : Given) (ts : List (List ℕ)) → Outcome kinds repeated token g ts (walk kinds repeated token g ts)
+pub reads : (kinds : List Kind) (repeated : Option Kind) (token : ℕ) (g : Given) (ts : List (List ℕ))
+    → Outcome kinds repeated token g ts (walk kinds repeated token g ts)
 unfolding walk
 reads [] repeated token g [] = record { all = refl; whole = omega arith; value = refl }
 reads (kind ∷ kinds) repeated token g [] = record {
@@ -86,13 +93,16 @@ reads (kind ∷ kinds) repeated token g [] = record {
 }
 reads kinds repeated token g (t ∷ ts) =
     elim (cases_Bool (fits (next_kind kinds repeated) t)) [
-      | inl fit ↦ rw (walk-next kinds repeated token g t ts fit) (more kinds repeated token g t ts _ fit (reads (rest kinds) repeated (suc token) (add_kind (next_kind kinds repeated) t g) ts))
+      | inl fit ↦
+          rw (walk-next kinds repeated token g t ts fit)
+          (more kinds repeated token g t ts _ fit (reads (rest kinds) repeated (suc token) (add_kind (next_kind kinds repeated) t g) ts))
       | inr fails ↦ rw (walk-stop kinds repeated token g t ts fails) (short kinds repeated token t ts fails)
     ]
 
 -- ---- in the words of the loop
 
-pub goes_on : (kinds later : List Kind) (repeated kind : Option Kind) (token : ℕ) (g h : Given) (t : List ℕ) (ts line : List (List ℕ)) (total : Result Given ℕ) → line ≡ t ∷ ts
+pub goes_on : (kinds later : List Kind) (repeated kind : Option Kind) (token : ℕ) (g h : Given) (t : List ℕ) (ts line : List (List ℕ))
+    (total : Result Given ℕ) → line ≡ t ∷ ts
     → kind ≡ next_kind kinds repeated → later ≡ rest kinds → true ≡ fits kind t → h ≡ add_kind kind t g
     → walk kinds repeated token g line ≡ total → walk later repeated (token + 1) h ts ≡ total
 goes_on kinds later repeated kind token g h t ts line total split is-kind is-rest fit is-h so_far =
@@ -100,13 +110,16 @@ goes_on kinds later repeated kind token g h t ts line total split is-kind is-res
     let step = walk-next kinds repeated token g t ts known in
     rw (is-rest, is-h, is-kind, add-one) (sym step ∙ rw (← split) so_far)
 
-pub stops_here : (kinds : List Kind) (repeated kind : Option Kind) (token : ℕ) (g : Given) (t : List ℕ) (ts line : List (List ℕ)) (total : Result Given ℕ) → line ≡ t ∷ ts
+pub stops_here : (kinds : List Kind) (repeated kind : Option Kind) (token : ℕ) (g : Given) (t : List ℕ) (ts line : List (List ℕ))
+    (total : Result Given ℕ) → line ≡ t ∷ ts
     → kind ≡ next_kind kinds repeated → false ≡ fits kind t → walk kinds repeated token g line ≡ total → total ≡ Err token
 stops_here kinds repeated kind token g t ts line total split is-kind fails so_far =
     sym so_far ∙ rw split (walk-stop kinds repeated token g t ts (rw (← is-kind) (sym fails)))
 
-pub stopped-at : (kinds : List Kind) (repeated : Option Kind) (token : ℕ) (g : Given) (ts : List (List ℕ)) (t : ℕ) → walk kinds repeated token g ts ≡ Err t → Stopped kinds repeated token ts t
+pub stopped-at : (kinds : List Kind) (repeated : Option Kind) (token : ℕ) (g : Given) (ts : List (List ℕ)) (t : ℕ)
+    → walk kinds repeated token g ts ≡ Err t → Stopped kinds repeated token ts t
 stopped-at kinds repeated token g ts t e = subst (λ r. Outcome kinds repeated token g ts r) e (reads kinds repeated token g ts)
 
-pub read-all : (kinds : List Kind) (repeated : Option Kind) (token : ℕ) (g h : Given) (ts : List (List ℕ)) → walk kinds repeated token g ts ≡ Ok h → Read kinds repeated g ts h
+pub read-all : (kinds : List Kind) (repeated : Option Kind) (token : ℕ) (g h : Given) (ts : List (List ℕ)) → walk kinds repeated token g ts ≡ Ok h
+    → Read kinds repeated g ts h
 read-all kinds repeated token g h ts e = subst (λ r. Outcome kinds repeated token g ts r) e (reads kinds repeated token g ts)

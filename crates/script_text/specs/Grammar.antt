@@ -7,7 +7,8 @@
 --   is_form row line     the tokens are a line of this form
 --   form_of line         the command of whose form the line is
 --   begins_none ts       no form begins with these tokens
---   grammar_fault line   the least t of 1 or more such that no form begins with the first t tokens, or their number plus 1 where all of them begin a form
+--   grammar_fault line   the least t of 1 or more such that no form begins with the first t tokens, or their number plus 1
+--                        where all of them begin a form
 --   add_kind k t g       what was given, with a token of the kind, if there is one
 --   gives ks r ts g      what was given, with these tokens, one after the other
 --   given_by w line      what the tokens after the word give

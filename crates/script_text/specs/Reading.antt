@@ -1,5 +1,6 @@
 -- What the reader of a script keeps of the lines that it has read.
---   IsBegun begun ls        the space, the sessions and the number of commands are those of the significant lines ls, of which the first is the header
+--   IsBegun begun ls        the space, the sessions and the number of commands are those of the significant lines ls,
+--                           of which the first is the header
 --   Follows reading ls      the reading is that of the significant lines ls
 --   with_line ss line       the sessions with one more line in the one begun last
 --   Reads ls line result    the result is the reading with one significant line more, or why that line is refused

@@ -1,7 +1,9 @@
 -- Which texts are scripts, what a script is read as, and the first line that breaks a rule.
 --   numbered n ls          the lines ls with the numbers from n on, each without its carriage return
---   is_skipped line        the line is blank, or its first token begins with #; is_skipped_text ws of its tokens ws
---   significant text       the lines of a text that aren't skipped, with their numbers in it; significant_from n ls of the lines ls, of which the first has the number n
+--   is_comment word        the word begins with #
+--   is_skipped line        the line is blank, or its first token is a comment's; is_skipped_text ws of its tokens ws
+--   significant text       the lines of a text that aren't skipped, with their numbers in it
+--   significant_from n ls  the same of the lines ls, of which the first has the number n
 --   is_plain b             b is a tab, or a byte from the space to the tilde
 --   header ws              the space of the first significant line, or why it is none; ws are its tokens
 --   is_session line        the line's first token is `session`; begins_session ws of its tokens ws
@@ -37,10 +39,13 @@ abbrev pub numbered : ℕ → List (List ℕ) → List NumberedLine
 numbered n [] = []
 numbered n (text ∷ texts) = record { line = n; text = without_return text } ∷ numbered (suc n) texts
 
+abbrev pub is_comment : List ℕ → Bool
+is_comment [] = false
+is_comment (b ∷ word) = b == 35
+
 abbrev pub is_skipped_text : List (List ℕ) → Bool
 is_skipped_text [] = true
-is_skipped_text ([] ∷ words) = false
-is_skipped_text ((b ∷ word) ∷ words) = b == 35
+is_skipped_text (word ∷ words) = is_comment word
 
 abbrev pub is_skipped : NumberedLine → Bool
 is_skipped line = is_skipped_text (tokens line.text)
@@ -51,7 +56,6 @@ significant_from n texts = filter (λ line. not (is_skipped line)) (numbered n t
 abbrev pub significant : List ℕ → List NumberedLine
 significant text = significant_from 1 (lines text)
 
--- a tab, or a byte from the space to the tilde
 abbrev pub is_plain : ℕ → Bool
 is_plain b = (b == 9) || (nat_le 32 b && nat_le b 126)
 
@@ -113,7 +117,6 @@ abbrev pub unless_fault : Option ScriptFault → ScriptText → Result ScriptTex
 unless_fault None script = Ok script
 unless_fault (Some fault) script = Err fault
 
--- the script of these significant lines, in a text of n lines
 abbrev pub script_from : ℕ → List NumberedLine → Result ScriptText ScriptFault
 script_from n [] = Err (faults.BadScript (n + 1) causes.Header)
 script_from n (first ∷ later) = unless_fault (first_fault [] (first ∷ later)) (with_sessions (header (tokens first.text)) (sessions_of later))

@@ -4,7 +4,8 @@
 --   is_kind k t        the token is of this kind
 --   natural t, integer t   the number of a token; a magnitude above MAX_MAGNITUDE counts as MAX_MAGNITUDE + 1, as each such number is refused alike
 --   term ps            the term that three parts give
---   Given              what the tokens of a command give: the integers, the number of `part`, the n of `image`, `chains` or T (1 where there is none), the operator, the coefficients and the terms
+--   Given              what the tokens of a command give: the integers, the number of `part`, the n of `image`, `chains` or T
+--                      (1 where there is none), the operator, the coefficients and the terms
 --   nothing            what no token gives
 --   add_operator t g   what was given, with an operator
 --   add k t g          what was given, with a token of this kind

@@ -16,7 +16,8 @@ given f = record { integers = f.integers.items; number = f.number; n = f.n; op =
 unfoldable pub walk : List Kind → Option Kind → ℕ → Given → List (List ℕ) → Result Given ℕ
 walk [] repeated token g [] = Ok g
 walk (kind ∷ kinds) repeated token g [] = Err token
-walk kinds repeated token g (t ∷ ts) = if fits (next_kind kinds repeated) t then walk (rest kinds) repeated (suc token) (add_kind (next_kind kinds repeated) t g) ts else Err token
+walk kinds repeated token g (t ∷ ts) =
+    if fits (next_kind kinds repeated) t then walk (rest kinds) repeated (suc token) (add_kind (next_kind kinds repeated) t g) ts else Err token
 
 abbrev pub Carries : {X Y : Type 0} → (X → Y) → Result X CommandFault → Result Y ℕ → Type 0
 Carries view (Ok x) read = read ≡ Ok (view x)

@@ -8,11 +8,10 @@ ghost use Rattle.script_text.specs.Walk.{given};
 
 use crate::command_fault::{CommandFault, LimitWord};
 use crate::fields::Fields;
-use crate::integers::Integers;
+use crate::items::{Integers, Terms};
 use crate::limits::{MAX_MAGNITUDE, MAX_TERMS};
 use crate::line::CommandLine;
 use crate::term::Term;
-use crate::terms::Terms;
 use crate::tokens::fields_of;
 use crate::word::{Word, word_of};
 use op_polynomials::{MAX_COEFFICIENTS, OpName};

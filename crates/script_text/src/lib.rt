@@ -6,32 +6,33 @@
 mod command;
 mod command_fault;
 mod fields;
-mod integers;
+mod items;
 mod kind;
 mod limits;
 mod line;
-mod parsing;
 mod reading;
 mod script;
 mod script_fault;
+mod script_line;
 mod session;
 mod space;
 mod term;
-mod terms;
 mod tokens;
 mod word;
 
 pub use command::{Command, parse_command};
 pub use command_fault::{CommandFault, LimitWord};
-pub use integers::Integers;
+pub use items::{Integers, Items, Terms};
 pub use kind::Kind;
-pub use limits::{MAX_COMMANDS, MAX_MAGNITUDE, MAX_SESSIONS, MAX_TERMS};
+pub use limits::{MAX_COMMANDS, MAX_MAGNITUDE, MAX_SESSIONS, MAX_TERMS, limit_values};
 pub use line::CommandLine;
-pub use parsing::parse_script;
+pub use reading::parse_script;
 pub use script::Script;
 pub use script_fault::{ScriptCause, ScriptFault};
 pub use session::SessionText;
 pub use space::SpaceLine;
 pub use term::Term;
-pub use terms::Terms;
 pub use word::Word;
+
+#[cfg(test)]
+mod tests;

@@ -1,3 +1,5 @@
+ghost use Rattle.std.specs.Prelude.{◌≡◌};
+
 /// The most sessions of a script.
 pub const MAX_SESSIONS: usize = 8;
 
@@ -11,4 +13,12 @@ pub const MAX_TERMS: usize = 64;
 pub const MAX_MAGNITUDE: u32 = 4_000_000_000;
 
 /// Each magnitude above `MAX_MAGNITUDE` is read as this one: all are refused alike.
-pub(crate) const PAST_MAGNITUDE: u32 = 4_000_000_001;
+pub(crate) const PAST_MAGNITUDE: u32 = MAX_MAGNITUDE + 1;
+
+/// The numbers of the limits.
+pub fn limit_values()
+    ensures sessions { MAX_SESSIONS ≡ 8 }
+    ensures commands { MAX_COMMANDS ≡ 2000 }
+    ensures terms { MAX_TERMS ≡ 64 }
+    ensures magnitude { MAX_MAGNITUDE ≡ 4000000000 }
+{}

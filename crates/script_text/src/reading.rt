@@ -1,21 +1,20 @@
-//! What the lines of a script that were read so far have given.
+//! Reading a script, line by line.
 
-ghost use Rattle.std.specs.Prelude.{◌≡◌, ◌<◌, ◌^◌, ◌-◌, ◌++◌, [], ◌∷◌, ℕ, List, true, false, Some, None, Ok, Err, length, nat_lt, MatchResult, OnOk};
+ghost use Rattle.std.specs.Prelude.{◌≡◌, ◌<◌, ◌^◌, ◌-◌, ◌∷◌, List, true, length, OnOk};
 ghost use Rattle.std.specs.List.{list_all};
 ghost use Rattle.text_lines.specs.Lines.{tokens};
 ghost use Rattle.script_text.specs.Numbered.{NumberedLine};
-ghost use Rattle.script_text.specs.Scripts.{is_skipped_text, is_plain, header, begins_session, later_cause};
+ghost use Rattle.script_text.specs.Scripts.{is_skipped_text, is_plain, script_of, AnswersScript};
 ghost use Rattle.script_text.specs.Reading.{IsBegun, Follows, Reads, Takes, with_line};
 
-use crate::limits::{MAX_COMMANDS, MAX_SESSIONS};
 use crate::line::CommandLine;
+use crate::script::Script;
 use crate::script_fault::{ScriptCause, ScriptFault};
+use crate::script_line::{header_of, is_comment_word, is_plain_line, later_line};
 use crate::session::SessionText;
 use crate::space::SpaceLine;
-use field_table::Field;
-use p1_normal::MAX_LEVEL;
 use std::alloc::{AllocError, Global};
-use text_lines::{natural, next_token};
+use text_lines::{next_line, next_token, without_return};
 
 /// What the header and the lines after it have given.
 #[derive(Drop)]
@@ -34,107 +33,39 @@ pub(crate) enum Reading {
     Begun(Begun),
 }
 
-/// Whether the line is blank or a comment.
-fn is_skipped_line(line: &[u8]) -> bool
-    ensures { result ≡ is_skipped_text (tokens line.now) }
+/// The script that a text is, or the fault of its first line that breaks a rule.
+/// The rules on one line are tried in the order of `ScriptCause`. One pass over the
+/// bytes; memory is taken for the kept lines alone.
+pub fn parse_script(alloc: Global, bytes: &[u8]) -> Result<Script, ScriptFault>
+    requires { length bytes.now < u32.MAX }
+    ensures read { AnswersScript result (script_of bytes.now) }
 {
-    match next_token(line) {
-        None => true,
-        Some(([b'#', ..], _)) => true,
-        Some(_) => false,
+    let mut reading = Reading::Start;
+    let mut rest = bytes;
+    let mut number: u32 = 1;
+    while let Some((line, after)) = next_line(rest) {
+        reading = take_line(alloc, reading, number, without_return(line))?;
+        rest = after;
+        number += 1;
     }
-}
-
-fn is_plain_byte(b: u8) -> bool
-    ensures { result ≡ is_plain b }
-{
-    b == b'\t' || (b' ' <= b && b <= b'~')
-}
-
-fn is_plain_line(line: &[u8]) -> bool
-    ensures { result ≡ list_all is_plain line.now }
-{
-    line.iter().all(|b| is_plain_byte(*b))
-}
-
-/// The space that a header names.
-fn header_of(line: &[u8]) -> Result<SpaceLine, ScriptCause>
-    ensures { result ≡ header (tokens line.now) }
-{
-    let Some((word, rest)) = next_token(line) else {
-        return Err(ScriptCause::Header)
-    };
-    let Some((n, rest)) = next_token(rest) else {
-        return Err(ScriptCause::Header)
-    };
-    let Some((p, rest)) = next_token(rest) else {
-        return Err(ScriptCause::Header)
-    };
-    if let Some(_) = next_token(rest) {
-        return Err(ScriptCause::Header);
+    match reading {
+        Reading::Start => Err(ScriptFault::BadScript {
+            line: number,
+            cause: ScriptCause::Header,
+        }),
+        Reading::Begun(
+            Begun {
+                space,
+                sessions,
+                ..
+            },
+        ) => Ok(Script { space, sessions }),
     }
-    let (Some(modulus), Some(characteristic)) = (natural(n, u32::MAX), natural(p, u32::MAX)) else {
-        return Err(ScriptCause::Header);
-    };
-    match word {
-        b"space" => {}
-        _ => return Err(ScriptCause::Header),
-    }
-    if modulus < 1 || MAX_LEVEL < modulus {
-        return Err(ScriptCause::Level);
-    }
-    if Field::open(characteristic).is_err() {
-        return Err(ScriptCause::Characteristic);
-    }
-    Ok(SpaceLine {
-        modulus,
-        characteristic,
-    })
-}
-
-/// Whether the line's first token is `session`, and whether more follow.
-fn session_line(line: &[u8]) -> (bool, bool)
-    ensures begins { result.0 ≡ begins_session (tokens line.now) }
-    ensures more { result.0 ≡ true → (result.1 ≡ nat_lt 1 (length (tokens line.now))) }
-{
-    match next_token(line) {
-        Some((b"session", rest)) => (true, next_token(rest).is_some()),
-        _ => (false, false),
-    }
-}
-
-/// Whether a line after the header begins a session, or why it is refused after
-/// this many sessions and commands.
-fn later_line(sessions: usize, commands: u32, line: &[u8]) -> Result<bool, ScriptCause>
-    ensures read { MatchResult result
-        (λ begins. (later_cause sessions commands (tokens line.now) ≡ None)
-        × (begins ≡ begins_session (tokens line.now)))
-        (λ cause. later_cause sessions commands (tokens line.now) ≡ Some cause) }
-    ensures begins { result ≡ Ok true → sessions < MAX_SESSIONS }
-    ensures command { result ≡ Ok false → (0 < sessions) × (commands < MAX_COMMANDS) }
-{
-    let (begins, more) = session_line(line);
-    if begins {
-        if more {
-            return Err(ScriptCause::Session);
-        }
-        if MAX_SESSIONS <= sessions {
-            return Err(ScriptCause::Sessions);
-        }
-        return Ok(true);
-    }
-    if sessions == 0 {
-        return Err(ScriptCause::NoSession);
-    }
-    if MAX_COMMANDS <= commands {
-        return Err(ScriptCause::Commands);
-    }
-    Ok(false)
 }
 
 /// The reading with one line more, or why that line is refused. A blank line or a
 /// comment leaves the reading as it is.
-pub(crate) fn take_line(
+fn take_line(
     alloc: Global,
     reading: Reading,
     line: u32,
@@ -145,20 +76,27 @@ pub(crate) fn take_line(
         → Takes (is_skipped_text (tokens text.now)) before
         (record { line = line; text = text.now }) result }
 {
-    if is_skipped_line(text) {
+    let Some((word, rest)) = next_token(text) else {
+        return Ok(reading);
+    };
+    if is_comment_word(word) {
         return Ok(reading);
     }
-    read_line(alloc, reading, line, text)
+    read_line(alloc, reading, line, text, word, rest)
 }
 
-/// The reading with one significant line more, or why that line is refused.
+/// The reading with one significant line more, which is its first token and the rest, or why that line is
+/// refused.
 fn read_line(
     alloc: Global,
     reading: Reading,
     line: u32,
     text: &[u8],
+    word: &[u8],
+    rest: &[u8],
 ) -> Result<Reading, ScriptFault>
-    requires { length text.now < u32.MAX }
+    requires short { length text.now < u32.MAX }
+    requires split { tokens text.now ≡ word.now ∷ tokens rest.now }
     ensures { (before : List NumberedLine) → Follows reading before
         → Reads before (record { line = line; text = text.now }) result }
 {
@@ -169,7 +107,7 @@ fn read_line(
         });
     }
     match reading {
-        Reading::Start => match header_of(text) {
+        Reading::Start => match header_of(word, rest) {
             Ok(space) => Ok(Reading::Begun(Begun {
                 space,
                 sessions: Vec::new(alloc),
@@ -177,7 +115,7 @@ fn read_line(
             })),
             Err(cause) => Err(ScriptFault::BadScript { line, cause }),
         },
-        Reading::Begun(begun) => read_later(alloc, begun, line, text),
+        Reading::Begun(begun) => read_later(alloc, begun, line, text, word, rest),
     }
 }
 
@@ -187,13 +125,16 @@ fn read_later(
     mut begun: Begun,
     line: u32,
     text: &[u8],
+    word: &[u8],
+    rest: &[u8],
 ) -> Result<Reading, ScriptFault>
     requires short { length text.now < u32.MAX }
+    requires split { tokens text.now ≡ word.now ∷ tokens rest.now }
     requires plain { list_all is_plain text.now ≡ true }
     ensures { (before : List NumberedLine) → IsBegun begun before
         → Reads before (record { line = line; text = text.now }) result }
 {
-    match later_line(begun.sessions.len(), begun.commands, text) {
+    match later_line(begun.sessions.len(), begun.commands, word, rest) {
         Ok(true) => {
             begun.sessions.push(SessionText::new(alloc))?;
             Ok(Reading::Begun(begun))
@@ -212,9 +153,8 @@ fn read_later(
 fn add_command(sessions: &mut Vec<SessionText>, line: CommandLine) -> Result<(), AllocError>
     ensures { OnOk result (sessions.new.items ≡ with_line sessions.old.items line) }
 {
-    if let Some(mut session) = sessions.pop() {
+    if let Some(session) = sessions.last_mut() {
         session.push(line)?;
-        sessions.push(session)?;
     }
     Ok(())
 }

@@ -1,10 +1,10 @@
-use Rattle.std.proofs.Common.{[], ◌∷◌, ◌++◌, ap, sym, ◌∙◌}
-use Rattle.script_text.specs.Reading.{with_line}
-use Rattle.script_text.proofs.SessionLemmas.{with_line-last}
+use Rattle.std.proofs.Common.{◌≡◌, ◌-◌, ◌<◌, length, vec_len, arith, rules}
+use Rattle.script_text.proofs.SessionLemmas.{with_line-set}
 use Rattle.script_text.proofs.reading.add_command.Goals as goal
 
-pub returns-in_ok-push-2 : goal.returns-in_ok-push-2
-returns-in_ok-push-2 c =
-    c.in_ok-push-2.ensures.items
-    ∙ ap (λ session. c.pop.new.self.items ++ session ∷ []) c.in_ok-push.ensures
-    ∙ sym (ap (λ ss. with_line ss c.args.line) c.in-Some.ensures.items ∙ with_line-last c.pop.new.self.items c.in-Some.session c.args.line)
+pub returns-in_ok-push : goal.returns-in_ok-push
+returns-in_ok-push c =
+    let len : vec_len c.args.sessions.now ≡ length c.args.sessions.now.items = search rules in
+    let some : 0 < vec_len c.args.sessions.now = search rules in
+    with_line-set c.args.sessions.now.items c.args.line c.in-Some.session.now c.push.new.self (vec_len c.args.sessions.now - 1) (omega arith)
+    c.in-Some.ensures.value c.in_ok-push.ensures

@@ -16,7 +16,8 @@ returns-then-not-branch c =
 pub loop-token-preserved : goal.loop-token-preserved
 loop-token-preserved c = record {
   room = omega (arith, c.in-Some.ensures.shorter, c.loop-token.invariant.room);
-  ahead = goes_on c.loop-token.to_come.now c.next_item-kind.result.1.now (row c.args.word).repeated c.next_item-kind.result.0 c.loop-token.place (given c.loop-token.fields) (given c.add_token.new.fields)
+  ahead = goes_on c.loop-token.to_come.now c.next_item-kind.result.1.now (row c.args.word).repeated c.next_item-kind.result.0
+      c.loop-token.place (given c.loop-token.fields) (given c.add_token.new.fields)
       c.in-Some.token.now (tokens c.in-Some.after.now) (tokens c.loop-token.rest.now) _ c.in-Some.ensures.token
       (c.next_item-kind.ensures.kind ∙ ap (next_kind c.loop-token.to_come.now) c.repeated.ensures)
       c.next_item-kind.ensures.more (sym c.if-not-branch.false ∙ c.in_ok-add_token.ensures.fits)
@@ -24,7 +25,13 @@ loop-token-preserved c = record {
 }
 
 pub returns-then-not-is_empty : goal.returns-then-not-is_empty
-returns-then-not-is_empty c = sym c.loop-token.invariant.ahead ∙ rw (c.in_default.ensures {u = tt}).token (walk-short c.loop-token.to_come.now (row c.args.word).repeated c.loop-token.place (given c.loop-token.fields) (c.if-not-is_empty.ensures {u = tt}))
+returns-then-not-is_empty c =
+    sym c.loop-token.invariant.ahead ∙ rw (c.in_default.ensures {u = tt}).token
+    (walk-short c.loop-token.to_come.now (row c.args.word).repeated c.loop-token.place (given c.loop-token.fields)
+    (c.if-not-is_empty.ensures {u = tt}))
 
 pub returns : goal.returns
-returns c = sym c.loop-token.invariant.ahead ∙ rw (c.in_default.ensures {u = tt}).token (walk-whole c.loop-token.to_come.now (row c.args.word).repeated c.loop-token.place (given c.loop-token.fields) (c.if-not-is_empty.ensures {u = tt}))
+returns c =
+    sym c.loop-token.invariant.ahead ∙ rw (c.in_default.ensures {u = tt}).token
+    (walk-whole c.loop-token.to_come.now (row c.args.word).repeated c.loop-token.place (given c.loop-token.fields)
+    (c.if-not-is_empty.ensures {u = tt}))

@@ -8,7 +8,8 @@ use Rattle.script_text.proofs.tokens.fields_of.Given as goal
 abbrev pub invariant-loop-token : goal.invariant-loop-token
 invariant-loop-token l = record {
   room : l.place + length l.rest ≤ 2 + length l.line;
-  ahead : walk l.to_come (row l.word).repeated l.place (given l.fields) (tokens l.rest) ≡ walk (row l.word).kinds (row l.word).repeated 2 nothing (tokens l.line);
+  ahead : walk l.to_come (row l.word).repeated l.place (given l.fields) (tokens l.rest)
+      ≡ walk (row l.word).kinds (row l.word).repeated 2 nothing (tokens l.line);
 }
 
 abbrev pub decreases-loop-token : goal.decreases-loop-token

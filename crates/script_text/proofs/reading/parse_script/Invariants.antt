@@ -1,6 +1,6 @@
 use Rattle.std.proofs.Common.{length}
 use Rattle.script_text.proofs.ScriptLemmas.{SoFar}
-use Rattle.script_text.proofs.parsing.parse_script.Given as goal
+use Rattle.script_text.proofs.reading.parse_script.Given as goal
 
 abbrev pub invariant-loop-line : goal.invariant-loop-line
 invariant-loop-line l = SoFar l.reading l.number l.rest l.bytes

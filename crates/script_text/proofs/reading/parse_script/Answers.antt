@@ -2,7 +2,7 @@ use Rattle.std.proofs.Common.{◌+◌, ◌≤◌, length, subst, arith}
 use Rattle.std.proofs.lemmas.Result.{err_from_is_err_and}
 use Rattle.script_text.specs.Reading.{Follows}
 use Rattle.script_text.proofs.ScriptLemmas.{SoFar, taken, refused, nothing_read, script_read, begun-script}
-use Rattle.script_text.proofs.parsing.parse_script.Goals as goal
+use Rattle.script_text.proofs.reading.parse_script.Goals as goal
 
 pub take_line-requires : goal.take_line-requires
 take_line-requires c =
@@ -14,13 +14,15 @@ returns-in_err-reading c =
     let p = err_from_is_err_and c.from_residual.result c.from_residual.ensures.1 in
     rw (p.1, p.2)
     (record {
-      read = refused c.in_err-reading.field-0.0 c.loop-line.reading c.loop-line.number c.in-Some.line.now c.without_return.result.now c.loop-line.rest.now c.in-Some.after.now c.args.bytes.now
+      read = refused c.in_err-reading.field-0.0 c.loop-line.reading c.loop-line.number c.in-Some.line.now c.without_return.result.now
+          c.loop-line.rest.now c.in-Some.after.now c.args.bytes.now
           c.loop-line.invariant c.in-Some.ensures.line c.without_return.ensures.line (c.in_err-reading.ensures {u = tt});
     })
 
 pub loop-line-preserved : goal.loop-line-preserved
 loop-line-preserved c =
-    taken c.loop-line.reading c.in_ok-reading.reading c.loop-line.number c.in-Some.line.now c.without_return.result.now c.loop-line.rest.now c.in-Some.after.now c.args.bytes.now
+    taken c.loop-line.reading c.in_ok-reading.reading c.loop-line.number c.in-Some.line.now c.without_return.result.now
+    c.loop-line.rest.now c.in-Some.after.now c.args.bytes.now
     c.loop-line.invariant c.in-Some.ensures.line c.in-Some.ensures.shorter c.without_return.ensures.line (c.in_ok-reading.ensures {u = tt})
 
 pub invariant_of-result : goal.invariant_of-result
@@ -31,10 +33,14 @@ invariant_of-result c =
 
 pub returns-in-Start : goal.returns-in-Start
 returns-in-Start c = record {
-  read = nothing_read c.loop-line.number c.loop-line.rest.now c.args.bytes.now (subst (λ r. SoFar r c.loop-line.number c.loop-line.rest.now c.args.bytes.now) c.in-Start.is c.loop-line.invariant) (c.in_default.ensures.line);
+  read = nothing_read c.loop-line.number c.loop-line.rest.now c.args.bytes.now
+      (subst (λ r. SoFar r c.loop-line.number c.loop-line.rest.now c.args.bytes.now) c.in-Start.is c.loop-line.invariant)
+      (c.in_default.ensures.line);
 }
 
 pub returns-in-Begun : goal.returns-in-Begun
 returns-in-Begun c = record {
-  read = script_read c.in-Begun.field-0 c.loop-line.number c.loop-line.rest.now c.args.bytes.now (subst (λ r. SoFar r c.loop-line.number c.loop-line.rest.now c.args.bytes.now) c.in-Begun.is c.loop-line.invariant) (c.in_default.ensures.line);
+  read = script_read c.in-Begun.field-0 c.loop-line.number c.loop-line.rest.now c.args.bytes.now
+      (subst (λ r. SoFar r c.loop-line.number c.loop-line.rest.now c.args.bytes.now) c.in-Begun.is c.loop-line.invariant)
+      (c.in_default.ensures.line);
 }
