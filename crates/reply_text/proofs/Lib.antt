@@ -1,2 +1,16 @@
+pub mod ItemLemmas
+pub mod LexemeLemmas
 pub mod LineLemmas
-pub mod Puts
+pub mod LineReads
+pub mod LineTexts
+pub mod Machine
+pub mod NumberTexts
+pub mod States
+pub mod StepLemmas
+pub mod TextFormat
+pub mod TextReads
+pub mod TranscriptReads
+pub mod TwoParts
+pub mod WordingLemmas
+pub mod WordingTexts
+pub mod WordingsRead

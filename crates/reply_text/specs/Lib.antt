@@ -1,3 +1,12 @@
+pub mod Faults
+pub mod FirstBad
+pub mod Lexemes
+pub mod LineForms
+pub mod Parts
 pub mod Pieces
+pub mod Rules
+pub mod Sections
+pub mod Steps
 pub mod Texts
 pub mod Transcripts
+pub mod Wordings

@@ -1,6 +1,9 @@
+ghost use Rattle.std.specs.Prelude.{◌<◌, ◌^◌, ◌-◌, length};
+
 use crate::{
-    History, Operators, Pairs, Points, Refusal, Reply, ReplyLine, Rows, SessionReplies, Sessions,
-    Transcript, write_transcript,
+    History, Operators, Pairs, Piece, Points, Refusal, Reply, ReplyLine, Rows, SessionReplies,
+    Sessions, Transcript, TranscriptFault, put_separated, read_transcript, write_text,
+    write_transcript,
 };
 use field_table::{Field, Residues};
 use op_polynomials::{OpName, Poly, SplitEntry};
@@ -8,7 +11,7 @@ use p1_normal::Point;
 use script_text::LimitWord;
 use std::alloc::Global;
 use std::test::Fail;
-use sym_io::MemSink;
+use sym_io::{MemSink, OutputBuffer};
 
 fn needs<T: Send + Sync>(_: &T) {}
 
@@ -175,4 +178,82 @@ fn transcripts(rt: HostRuntime) -> Result<(), Fail> {
     assert!(rt; write_transcript(&pairs, &mut full).is_err());
     assert!(rt; full.bytes() == b"transcript".as_slice());
     Ok(())
+}
+
+// The greatest number, and pieces between commas.
+#[test]
+fn pieces(rt: HostRuntime) -> Result<(), Fail> {
+    let alloc = rt.alloc();
+    let mut sink = MemSink::new(alloc, 100, 64, Vec::new(alloc))?;
+    write_text(&Piece::Number(u64::MAX), &mut sink)?;
+    assert!(rt; sink.bytes() == b"18446744073709551615".as_slice());
+    let mut sink = MemSink::new(alloc, 100, 64, Vec::new(alloc))?;
+    let mut buffer = OutputBuffer::new();
+    let pieces = [Piece::Number(0), Piece::Word(b"-"), Piece::Number(12)];
+    put_separated(&mut buffer, &mut sink, b",", &pieces)?;
+    buffer.flush(&mut sink)?;
+    assert!(rt; sink.bytes() == b"0,-,12".as_slice());
+    Ok(())
+}
+
+// Whether this text is read, and written again as it stands.
+fn is_read(alloc: Global, text: &[u8]) -> Result<bool, Fail>
+    requires { length text.now < u32.MAX }
+{
+    match read_transcript(alloc, text) {
+        Ok(t) => is_written(alloc, &t, text),
+        Err(_) => Ok(false),
+    }
+}
+
+// The line at which this text is that of no transcript, or 0.
+fn faulty_line(alloc: Global, text: &[u8]) -> u32
+    requires { length text.now < u32.MAX }
+{
+    match read_transcript(alloc, text) {
+        Err(TranscriptFault::BadTranscript { line }) => line,
+        _ => 0,
+    }
+}
+
+#[test]
+fn reads_what_is_written(rt: HostRuntime) -> Result<(), Fail> {
+    let text =
+        b"transcript 1\nspace 11 101 symbols 12\nsession 1\n1 @0 ok version 1 dims 1 2\n2 @1 ok rows 0 1 0 ; 0 0 1\n3 @1 err commutator star 0 0 1 0\nsession 2\nhistory 1\n1 s1 c1 T2 98,1\ncolumns 18446744073709551615\nend\n";
+    assert!(rt; is_read(rt.alloc(), text)?);
+    Ok(())
+}
+
+// Another version, no line, and another number of symbols.
+#[test]
+fn faulty_first_lines(rt: HostRuntime) {
+    let alloc = rt.alloc();
+    assert_eq!(rt; faulty_line(alloc, b"transcript 3\n"), 1);
+    assert_eq!(rt; faulty_line(alloc, b""), 1);
+    let text = b"transcript 1\nspace 11 101 symbols 13\n";
+    assert_eq!(rt; faulty_line(alloc, text), 2);
+}
+
+// No line feed at the end, no end, and a line after it.
+#[test]
+fn faulty_last_lines(rt: HostRuntime) {
+    let alloc = rt.alloc();
+    let text = b"transcript 1\nspace 11 101 symbols 12\nhistory 0\ncolumns 0\nend";
+    assert_eq!(rt; faulty_line(alloc, text), 5);
+    let text = b"transcript 1\nspace 11 101 symbols 12\nhistory 0\ncolumns 0\n";
+    assert_eq!(rt; faulty_line(alloc, text), 5);
+    let text = b"transcript 1\nspace 11 101 symbols 12\nhistory 0\ncolumns 0\nend\n\n";
+    assert_eq!(rt; faulty_line(alloc, text), 6);
+}
+
+// No row, a leading zero, and a number of 65 bits.
+#[test]
+fn faulty_numbers(rt: HostRuntime) {
+    let alloc = rt.alloc();
+    let text = b"transcript 1\nspace 11 101 symbols 12\nsession 1\n1 @0 ok rows\n";
+    assert_eq!(rt; faulty_line(alloc, text), 4);
+    let text = b"transcript 1\nspace 11 101 symbols 12\nsession 1\n1 @0 ok coords 01\n";
+    assert_eq!(rt; faulty_line(alloc, text), 4);
+    let text = b"transcript 1\nspace 11 101 symbols 12\nhistory 0\ncolumns 18446744073709551616\n";
+    assert_eq!(rt; faulty_line(alloc, text), 4);
 }
