@@ -1,15 +1,17 @@
 -- What a run leaves behind.
 --   is_solo words    the words of the command line are the one word `solo`
 --   Stream           the bytes that a source has left or that a sink has taken, where it tells them
---   Writes bytes P   the bytes are a script, and P holds of the text of a transcript of it
+--   Writes bytes P   the bytes are a script, and P holds of the text of a legal run of it
 --   LeavesSolo ..    what a run of `solo` leaves, from the streams and their counts of faults before and after, and its status:
---     done           the text of a transcript of the script that was left was appended
---     ended          the input was read to its end
+--     done           the text of a legal run of the script that was left was appended
+--     ended          the input was read to its end, also where it is no script
 --     write_fault    the output's count rose, and a part of such a text was appended
 --     read_fault     the input's count rose
 --     too_long       more bytes than MAX_INPUT were taken, exactly
 --     bad_script     the bytes that were left are no script: the first line that breaks a rule, and why
 --     nothing        nothing is written with another status
+--     words          the status is not that of other words
+--     reads, writes  no count of faults falls
 --   LeavesUnread ..  the streams as they were
 use Rattle.std.specs.Prelude.{◌≡◌, ◌≢◌, ℕ, ◌≤◌, Bool, false, List, [], ◌∷◌, Option, IfSome, Ok, Err, codes, string_bytes, String}
 use Rattle.std.specs.Global.{Global}
@@ -27,7 +29,7 @@ use Rattle.reply_text.specs.Transcripts.{transcript_text}
 use Rattle.host_workers.specs.declared.status.Status.{Status}
 use Rattle.host_workers.specs.declared.status.Status.TheVariants.{Done, Usage, ReadFault, WriteFault, TooLong, BadScript}
 use Rattle.host_workers.specs.declared.status.TheConstants.{MAX_INPUT}
-use Rattle.host_workers.specs.Sessions.{IsSoloTranscript}
+use Rattle.session_core.specs.Transcripts.{IsLegalRun}
 
 abbrev pub Stream : Type 0
 Stream = Option (List ℕ)
@@ -36,7 +38,7 @@ pub record Writes (bytes : List ℕ) (P : List ℕ → Type 0) : Type 0 where
   pub script : ScriptText
   pub is_script : script_of bytes ≡ Ok script
   pub transcript : Transcript
-  pub is_transcript : IsSoloTranscript script transcript
+  pub is_run : IsLegalRun script transcript
   pub text : P (transcript_text transcript)
 
 pub record LeavesUnread (left_before left_after written_before written_after : Stream) (read_before read_after write_before write_after : ℕ) : Type 0 where
@@ -48,6 +50,7 @@ pub record LeavesUnread (left_before left_after written_before written_after : S
 pub record LeavesSolo (left_before left_after written_before written_after : Stream) (read_before read_after write_before write_after : ℕ) (status : Status) : Type 0 where
   pub done : status ≡ Done → IfSome left_before (λ bytes. Writes bytes (λ text. Appends written_before written_after text))
   pub ended : status ≡ Done → IsAtEnd left_after
+  pub bad_ended : (line : ℕ) (cause : ScriptCause) → status ≡ BadScript line cause → IsAtEnd left_after
   pub write_fault : status ≡ WriteFault → Rose write_before write_after
   pub part : status ≡ WriteFault → IfSome left_before (λ bytes. Writes bytes (λ text. AppendsPart written_before written_after text))
   pub read_fault : status ≡ ReadFault → Rose read_before read_after

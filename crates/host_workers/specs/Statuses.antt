@@ -33,7 +33,7 @@ status_line statuses.Done = []
 status_line statuses.Usage = codes "usage: symbol_cli solo, serve, or gen and a number" ++ 10 ∷ []
 status_line statuses.ReadFault = codes "read fault" ++ 10 ∷ []
 status_line statuses.WriteFault = codes "write fault" ++ 10 ∷ []
-status_line (statuses.BadScript line cause) = (codes "bad script at line " ++ decimal line) ++ (codes ": " ++ cause_word cause ++ 10 ∷ [])
+status_line (statuses.BadScript line cause) = codes "bad script at line " ++ decimal line ++ codes ": " ++ cause_word cause ++ 10 ∷ []
 status_line statuses.TooLong = codes "input too long" ++ 10 ∷ []
 status_line statuses.OutOfMemory = codes "out of memory" ++ 10 ∷ []
 

@@ -3,22 +3,17 @@
 //! promise that the bytes written are the transcript of the bytes read.
 #![tactic(auto)]
 
-mod answer;
-mod column_table;
-mod combination;
 mod gate;
-mod host;
-mod image;
 mod laws;
-mod sessions;
 mod solo;
 mod status;
 #[cfg(test)]
 mod tests;
 mod top;
+mod transcript;
 
 pub use gate::{Gate, GatePoint, NoGate};
-pub use laws::transcripts_are_unique;
+pub use laws::limits;
 pub use solo::run_solo;
 pub use status::{MAX_INPUT, Status};
 pub use top::run;

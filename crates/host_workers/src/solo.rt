@@ -1,7 +1,7 @@
 ghost use Rattle.host_workers.specs.Runs.{LeavesSolo};
 
-use crate::sessions::transcript_of;
 use crate::status::{MAX_INPUT, Status};
+use crate::transcript::transcript_of;
 use reply_text::write_transcript;
 use script_text::{ScriptFault, parse_script};
 use std::alloc::Global;
@@ -12,7 +12,8 @@ use sym_io::{ReadAllFault, Sink, Source, read_all};
 /// breaks a rule of scripts; a fault of the output. Want of memory may come before the first byte is written;
 /// afterwards it is the reply of its command. Costs the opening of the space once, and its replies.
 pub fn run_solo<I: Source, O: Sink>(alloc: Global, input: &mut I, output: &mut O) -> Status
-    ensures { LeavesSolo (I.left input.old) (I.left input.new) (O.written output.old) (O.written output.new)
+    ensures { LeavesSolo (I.left input.old) (I.left input.new) (O.written output.old)
+        (O.written output.new)
         (I.faults input.old) (I.faults input.new) (O.faults output.old) (O.faults output.new) result }
 {
     let bytes = match read_all(alloc, input, MAX_INPUT) {

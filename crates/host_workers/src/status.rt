@@ -1,10 +1,10 @@
-ghost use Rattle.std.specs.Prelude.{◌≡◌, ◌++◌, ◌∷◌, [], OnOk, codes, decimal};
+ghost use Rattle.std.specs.Prelude.{◌≡◌, OnOk};
 ghost use Rattle.std.specs.Io.KnownBytes.{Appends};
 ghost use Rattle.host_workers.specs.Statuses.{IsPlain, cause_word, exit_number, status_line};
 ghost use Rattle.sym_io.specs.Causes.{HasCause};
-ghost use Rattle.sym_io.specs.Writing.{AppendsPart, BuffersText};
+ghost use Rattle.sym_io.specs.Writing.{AppendsPart};
 
-use itoa::Buffer;
+use reply_text::{Piece, Put, put_all, write_text};
 use script_text::ScriptCause;
 use sym_io::{Failed, OutputBuffer, Sink};
 
@@ -48,13 +48,34 @@ impl Status {
 
     /// Writes the line that tells the user of the status, with its line end: nothing for `Done`. Takes no memory.
     pub fn write_line<O: Sink>(self, output: &mut O) -> Result<(), Failed>
-        ensures line { OnOk result (Appends (O.written output.old) (O.written output.new) (status_line self)) }
-        ensures part { AppendsPart (O.written output.old) (O.written output.new) (status_line self) }
+        ensures line { OnOk result (Appends (O.written output.old) (O.written output.new)
+            (status_line self)) }
+        ensures part { AppendsPart (O.written output.old) (O.written output.new)
+            (status_line self) }
         ensures cause { HasCause (O.faults output.old) (O.faults output.new) result }
     {
-        let mut buffer = OutputBuffer::new();
-        put_line(&mut buffer, output, self)?;
-        buffer.flush(output)
+        write_text(&self, output)
+    }
+}
+
+impl Put for Status {
+    ghost text = { status_line };
+
+    fn put<O: Sink>(&self, buffer: &mut OutputBuffer, output: &mut O) -> Result<(), Failed> {
+        match self {
+            Status::BadScript { line, cause } => put_all(
+                buffer,
+                output,
+                &[
+                    Piece::Word(b"bad script at line "),
+                    Piece::Number(u64::from(*line)),
+                    Piece::Word(b": "),
+                    Piece::Word(cause_word(*cause)),
+                    Piece::Word(b"\n"),
+                ],
+            ),
+            _ => buffer.put(output, plain_line(*self)),
+        }
     }
 }
 
@@ -84,55 +105,5 @@ fn plain_line(status: Status) -> &'static [u8]
         Status::TooLong => b"input too long\n",
         Status::OutOfMemory => b"out of memory\n",
         _ => b"",
-    }
-}
-
-fn put_place<O: Sink>(buffer: &mut OutputBuffer, output: &mut O, line: u32) -> Result<(), Failed>
-    ensures text { BuffersText (O.written output.old) (O.written output.new) buffer.old buffer.new (codes "bad script at line " ++ decimal line) result }
-    ensures cause { HasCause (O.faults output.old) (O.faults output.new) result }
-{
-    let mut digits = Buffer::new();
-    buffer.put(output, b"bad script at line ")?;
-    buffer.put(output, digits.format(line).as_bytes())
-}
-
-fn put_word<O: Sink>(
-    buffer: &mut OutputBuffer,
-    output: &mut O,
-    cause: ScriptCause,
-) -> Result<(), Failed>
-    ensures text { BuffersText (O.written output.old) (O.written output.new) buffer.old buffer.new (codes ": " ++ cause_word cause) result }
-    ensures cause { HasCause (O.faults output.old) (O.faults output.new) result }
-{
-    buffer.put(output, b": ")?;
-    buffer.put(output, cause_word(cause))
-}
-
-fn put_cause<O: Sink>(
-    buffer: &mut OutputBuffer,
-    output: &mut O,
-    cause: ScriptCause,
-) -> Result<(), Failed>
-    ensures text { BuffersText (O.written output.old) (O.written output.new) buffer.old buffer.new (codes ": " ++ cause_word cause ++ 10 ∷ []) result }
-    ensures cause { HasCause (O.faults output.old) (O.faults output.new) result }
-{
-    put_word(buffer, output, cause)?;
-    buffer.put(output, b"\n")
-}
-
-fn put_line<O: Sink>(
-    buffer: &mut OutputBuffer,
-    output: &mut O,
-    status: Status,
-) -> Result<(), Failed>
-    ensures text { BuffersText (O.written output.old) (O.written output.new) buffer.old buffer.new (status_line status) result }
-    ensures cause { HasCause (O.faults output.old) (O.faults output.new) result }
-{
-    match status {
-        Status::BadScript { line, cause } => {
-            put_place(buffer, output, line)?;
-            put_cause(buffer, output, cause)
-        }
-        _ => buffer.put(output, plain_line(status)),
     }
 }

@@ -1,4 +1,4 @@
-use super::{NoGate, Status, run, transcripts_are_unique};
+use super::{NoGate, Status, limits, run, run_solo};
 use script_text::ScriptCause;
 use std::alloc::Global;
 use std::test::Fail;
@@ -26,6 +26,23 @@ const ZERO_COEFFICIENT: &[u8] = b"space 11 101\nsession\nimage 2\nimage 2 101:0:
 const ZERO_ANSWERS: &[u8] =
     b"transcript 1\nspace 11 101 symbols 12\nsession 1\n1 @0 ok coords 0 0 0\n2 @0 ok coords 0 0 0\nhistory 0\ncolumns 1\nend\n";
 
+const LEVEL_ONE: &[u8] =
+    b"space 1 5\nsession\nbasis\nnormal 4 6\nreduce 1:0:0\ncertify 1:0:0\nimage 2 1:0:0\nchains 1\n";
+
+const LEVEL_ONE_ANSWERS: &[u8] =
+    b"transcript 1\nspace 1 5 symbols 1\nsession 1\n1 @0 ok basis 0\n2 @0 ok point (0:0)\n3 @0 ok coords\n4 @0 ok certified by 0:3\n5 @0 ok coords\n6 @0 ok chains 1 matrices 1\nhistory 0\ncolumns 1\nend\n";
+
+const CUSPS: &[u8] = b"space 4 7\nsession\ncusps\nboundary 1:1:2\nbasis\nnormal 2 3\nstar 1:2:0\n";
+
+const CUSPS_ANSWERS: &[u8] =
+    b"transcript 1\nspace 4 7 symbols 6\nsession 1\n1 @0 ok cusps 3 (0:1) (1:0) (2:1)\n2 @0 ok boundary 0 1 6\n3 @0 ok basis 2 (0:1) (1:2)\n4 @0 ok point (2:1)\n5 @0 err not_symbol 1\nhistory 0\ncolumns 0\nend\n";
+
+const STARS: &[u8] =
+    b"space 11 101\nsession\nstar 1:1:3\nboundary 1:0:1\nboundary 1:1:2\ncusps\nstar\nboundary\n";
+
+const STARS_ANSWERS: &[u8] =
+    b"transcript 1\nspace 11 101 symbols 12\nsession 1\n1 @0 ok coords 0 1 100\n2 @0 ok boundary 1 100\n3 @0 ok boundary 0 0\n4 @0 ok cusps 2 (0:1) (1:0)\n5 @0 ok coords 0 0 0\n6 @0 ok boundary 0 0\nhistory 0\ncolumns 0\nend\n";
+
 // A script with the calls of the input and of the output that fail, the room of the output, the status and what is written.
 #[derive(Clone, Copy)]
 struct Case {
@@ -52,12 +69,15 @@ fn bad(script: &'static [u8], line: u32, cause: ScriptCause) -> Case {
     plain(script, Status::BadScript { line, cause }, b"")
 }
 
-fn cases() -> [Case; 11] {
+fn cases() -> [Case; 14] {
     [
         plain(SCRIPT, Status::Done, TRANSCRIPT),
         plain(COORDS, Status::Done, ANSWERS),
         plain(IMAGES, Status::Done, IMAGE_ANSWERS),
         plain(ZERO_COEFFICIENT, Status::Done, ZERO_ANSWERS),
+        plain(LEVEL_ONE, Status::Done, LEVEL_ONE_ANSWERS),
+        plain(STARS, Status::Done, STARS_ANSWERS),
+        plain(CUSPS, Status::Done, CUSPS_ANSWERS),
         Case {
             read_fails: &[1],
             ..plain(SCRIPT, Status::ReadFault, b"")
@@ -79,7 +99,6 @@ fn cases() -> [Case; 11] {
 
 #[test]
 fn each_script_has_its_status_and_text(rt: HostRuntime) -> Result<(), Fail> {
-    transcripts_are_unique();
     let alloc = rt.alloc();
     let mut words = Vec::new(alloc);
     words.push(String::from_str(alloc, "solo")?)?;
@@ -107,4 +126,36 @@ fn other_words_read_nothing(rt: HostRuntime) -> Result<(), Fail> {
         assert!(rt; output.bytes().is_empty());
     }
     Ok(())
+}
+
+// A script of one image of so many terms, each the symbol (0:1).
+fn image_script(alloc: Global, terms: u32) -> Result<Vec<u8>, Fail> {
+    let mut script = b"space 11 101\nsession\nimage 2".to_vec(alloc)?;
+    for _ in 0..terms {
+        script.extend_from_slice(b" 1:0:1")?;
+    }
+    Ok(script)
+}
+
+// What the script of such an image has on its fourth line.
+fn has_reply(alloc: Global, terms: u32, reply: &[u8]) -> Result<bool, Fail> {
+    let mut input = MemSource::new(image_script(alloc, terms)?, 64, Vec::new(alloc));
+    let mut output = MemSink::new(alloc, 1000, 64, Vec::new(alloc))?;
+    let status = run_solo(alloc, &mut input, &mut output);
+    let told = output.bytes().split(|byte| *byte == b'\n').nth(3);
+    Ok(status == Status::Done && told == Some(reply))
+}
+
+// The image of (0:1) is 3 1 0.
+#[test]
+fn images_of_many_terms(rt: HostRuntime) -> Result<(), Fail> {
+    assert!(rt; has_reply(rt.alloc(), 2, b"1 @0 ok coords 6 2 0")?);
+    assert!(rt; has_reply(rt.alloc(), 64, b"1 @0 ok coords 91 64 0")?);
+    assert!(rt; has_reply(rt.alloc(), 65, b"1 @0 err limit terms")?);
+    Ok(())
+}
+
+#[test]
+fn laws(_rt: HostRuntime) {
+    limits();
 }

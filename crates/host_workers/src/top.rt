@@ -21,9 +21,13 @@ pub fn run<R: Threads + Wait + Sync, I: Source, O: Sink, G: Gate>(
     _gate: &G,
 ) -> Status
     ensures usage { result ≡ Status.Usage ↔ (is_solo words.now ≡ false) }
-    ensures unread { result ≡ Status.Usage → LeavesUnread (I.left input.old) (I.left input.new) (O.written output.old) (O.written output.new)
+    ensures unread { result ≡ Status.Usage →
+        LeavesUnread (I.left input.old) (I.left input.new) (O.written output.old)
+        (O.written output.new)
         (I.faults input.old) (I.faults input.new) (O.faults output.old) (O.faults output.new) }
-    ensures solo { is_solo words.now ≡ true → LeavesSolo (I.left input.old) (I.left input.new) (O.written output.old) (O.written output.new)
+    ensures solo { is_solo words.now ≡ true →
+        LeavesSolo (I.left input.old) (I.left input.new) (O.written output.old)
+        (O.written output.new)
         (I.faults input.old) (I.faults input.new) (O.faults output.old) (O.faults output.new) result }
 {
     if is_solo(words) {

@@ -1,0 +1,102 @@
+ghost use Rattle.std.specs.Prelude.{◌≡◌, ◌≤◌, [], IfOk, OnOk, length};
+ghost use Rattle.std.specs.List.{AllZip};
+ghost use Rattle.script_text.specs.Valid.{command_count};
+ghost use Rattle.session_core.specs.Demands.{Adds, script_demand, session_demand};
+ghost use Rattle.session_core.specs.Transcripts.{AreReplyLines, HoldsDemand, IsLegalRun, script_ground};
+
+use field_table::{Field, OutOfMemory};
+use p1_normal::{Level, LevelFault};
+use quotient_coords::Space;
+use reply_text::{History, SessionReplies, Sessions, Transcript};
+use script_text::{CommandLine, MAX_COMMANDS, MAX_SESSIONS, Script, SessionText};
+use session_core::Host;
+use std::alloc::Global;
+
+// The reply lines of a session.
+fn session_replies(
+    alloc: Global,
+    host: &mut Host,
+    session: u32,
+    lines: &[CommandLine],
+) -> Result<SessionReplies, OutOfMemory>
+    requires few { length lines.now ≤ MAX_COMMANDS }
+    requires session { (1 ≤ session) × (session ≤ host.old.sessions) }
+    requires unsplit { host.old.history ≡ [] }
+    ensures replies { IfOk result (AreReplyLines host.old.ground [] lines.now) }
+    ensures ground { host.new.ground ≡ host.old.ground }
+    ensures sessions { host.new.sessions ≡ host.old.sessions }
+    ensures unsplit { host.new.history ≡ [] }
+    ensures adds { OnOk result (Adds
+        (session_demand host.old.ground lines.now) host.old.pairs host.new.pairs) }
+    ensures held { IfOk result (AllZip (HoldsDemand host.old.ground [] host.new.pairs) lines.now) }
+{
+    let mut replies = Vec::with_capacity(alloc, lines.len())?;
+    let mut number = 1;
+    for line in lines {
+        replies.push(host.step(session, number, line))?;
+        number += 1;
+    }
+    Ok(SessionReplies::of(replies))
+}
+
+// The reply lines of the sessions, one session after another.
+fn script_replies(
+    alloc: Global,
+    host: &mut Host,
+    sessions: &[SessionText],
+) -> Result<Sessions, OutOfMemory>
+    requires sessions { length sessions.now ≤ MAX_SESSIONS }
+    requires commands { command_count sessions.now ≤ MAX_COMMANDS }
+    requires host { host.old.sessions ≡ length sessions.now }
+    requires unsplit { host.old.history ≡ [] }
+    ensures replies { IfOk result (AllZip (AreReplyLines host.old.ground []) sessions.now) }
+    ensures unsplit { host.new.history ≡ [] }
+    ensures adds { OnOk result (Adds
+        (script_demand host.old.ground sessions.now) host.old.pairs host.new.pairs) }
+    ensures held { IfOk result (AllZip (AllZip
+        (HoldsDemand host.old.ground [] host.new.pairs)) sessions.now) }
+{
+    let mut all = Vec::with_capacity(alloc, sessions.len())?;
+    let mut number = 1;
+    for session in sessions {
+        all.push(session_replies(alloc, host, number, session.commands())?)?;
+        number += 1;
+    }
+    Ok(Sessions::of(all))
+}
+
+// The space of a script, whose header names a level within the limit and a listed characteristic.
+fn space_of(alloc: Global, script: &Script) -> Result<Space, OutOfMemory>
+    ensures { IfOk result (λ s. s ≡ script_ground script.now) }
+{
+    let line = script.space();
+    let level = match Level::open(alloc, line.modulus) {
+        Ok(level) => level,
+        Err(LevelFault::OutOfMemory) => return Err(OutOfMemory),
+        Err(LevelFault::Limit { .. }) => unreachable!(),
+    };
+    let Ok(field) = Field::open(line.characteristic) else {
+        unreachable!()
+    };
+    Space::open(alloc, level, field)
+}
+
+/// The transcript of a script, its sessions run one after another.
+pub fn transcript_of(alloc: Global, script: &Script) -> Result<Transcript, OutOfMemory>
+    ensures { IfOk result (IsLegalRun script.now) }
+{
+    let space = space_of(alloc, script)?;
+    let symbols = space.level().count();
+    let mut host = Host::new(alloc, space, script.sessions().len() as u32)?;
+    let sessions = script_replies(alloc, &mut host, script.sessions())?;
+    let history = Vec::from_slice(alloc, host.history())?;
+    let line = script.space();
+    Ok(Transcript {
+        modulus: line.modulus,
+        characteristic: line.characteristic,
+        symbols,
+        sessions,
+        history: History::of(history),
+        columns: host.columns(),
+    })
+}

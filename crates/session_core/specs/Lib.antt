@@ -1,0 +1,9 @@
+pub mod Terms
+pub mod Refusals
+pub mod Answers
+pub mod Demands
+pub mod Prepared
+pub mod Replies
+pub mod Transcripts
+pub mod ColumnTable
+pub mod Hosts

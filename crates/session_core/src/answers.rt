@@ -1,0 +1,6 @@
+//! The answers to commands that nothing refuses, each family in a module of its own.
+
+pub mod coordinates;
+pub mod cusps;
+pub mod hecke;
+pub mod points;
