@@ -3,7 +3,7 @@ use field_table::{CHARACTERISTICS, Combo, Field, OutOfMemory};
 use manin_relations::Relations;
 use p1_normal::Level;
 use quotient_coords::Space;
-use sparse_echelon::eliminate;
+use sparse_echelon::{Echelon, eliminate};
 use std::alloc::Global;
 use std::test::Fail;
 
@@ -39,6 +39,24 @@ fn the_relations_keep_the_same_rows_in_every_characteristic(rt: HostRuntime) -> 
             "at {p}"
         );
     }
+    Ok(())
+}
+
+// Whether the place is a pivot whose row has these terms.
+fn has_row(echelon: &Echelon, place: u32, expected: &[(u32, u32)]) -> bool {
+    echelon.is_pivot(place) && echelon.row(place).terms() == expected
+}
+
+// Symbol 5 is w - y, so its row is 1 at 5, 1 at y and -1 at w.
+#[test]
+fn the_row_of_symbol_five_has_its_terms(rt: HostRuntime) -> Result<(), Fail> {
+    let field = Field::open(101)?;
+    let level = Level::open(rt.alloc(), 11)?;
+    let relations = Relations::build(rt.alloc(), &level, field)?;
+    let rows = relations.rows();
+    assert_eq!(rt; rows.len(), 24);
+    let echelon = eliminate(rt.alloc(), field, rows, level.count())?;
+    assert!(rt; has_row(&echelon, 5, &[(3, 1), (4, 100), (5, 1)]));
     Ok(())
 }
 
