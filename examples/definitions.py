@@ -1,13 +1,13 @@
 #!/usr/bin/env python3
 """Works out the transcript of a script from the definitions alone, slowly and plainly, for the commands
-normal, basis, reduce, certify, image and chains, each of the right form: the expected transcripts of these
-examples come from here.
+normal, basis, reduce, certify, image, star, boundary, cusps and chains, each of the right form: the expected
+transcripts of these examples come from here.
 
     examples/definitions.py < examples/level-11/script
 
 It shares nothing with the program. Points are found by trying all units, a relation is a count of symbols,
 a symbol is bound where elimination from the greatest place leaves it as the greatest of a row, and Merel's
-sum acts by each matrix on each pair as it was given."""
+sum acts by each matrix on each pair as it was given. A cusp is the set of symbols (u : v + iu)."""
 
 import sys
 from math import gcd
@@ -92,16 +92,24 @@ def main():
     free = [j for j in range(m) if j not in rows]
     demanded = set()  # the pairs (n, symbol) of columns
 
+    def cusp(u, v):
+        """The cusp of (u:v): the numbers of the symbols (u : v + iu)."""
+        return frozenset(number[normal(u, v + i * u)] for i in range(level))
+
+    cusps = sorted({cusp(*symbol) for symbol in symbols}, key=min)
+
     def reply(words):
         n, terms = None, []
         if words[0] == "normal":
             terms = [(1, int(words[1]), int(words[2]))]
-        elif words[0] in ("reduce", "certify"):
+        elif words[0] in ("reduce", "certify", "star", "boundary"):
             terms = [tuple(map(int, word.split(":"))) for word in words[1:]]
         elif words[0] == "image":
             n, terms = int(words[1]), [tuple(map(int, word.split(":"))) for word in words[2:]]
         elif words[0] == "chains":
             n = int(words[1])
+        elif words == ["cusps"]:
+            return " ".join(["ok cusps", str(len(cusps))] + ["(%d:%d)" % symbols[min(c)] for c in cusps])
         elif words == ["basis"]:
             return " ".join(["ok basis", str(len(free))] + ["(%d:%d)" % symbols[j] for j in free])
         else:
@@ -123,9 +131,17 @@ def main():
             return "ok point (%d:%d)" % normal(*terms[0][1:])
         if words[0] == "image" and gcd(n, level) != 1:
             return "err not_coprime %d" % gcd(n, level)
+        if words[0] == "boundary":
+            sums = [0] * len(cusps)
+            for x, u, v in terms:
+                sums[cusps.index(cusp(u, v))] += x
+                sums[cusps.index(cusp(v, -u))] -= x
+            return " ".join(["ok boundary"] + [str(x % p) for x in sums])
         combination = {}
         for x, u, v in terms:
-            if words[0] == "image":
+            if words[0] == "star":
+                add(combination, x, {number[normal(-u, v)]: 1})
+            elif words[0] == "image":
                 demanded.add((n, number[normal(u, v)]))
                 for a, b, c, d in merel(n):
                     add(combination, x, {number[normal(a * u + c * v, b * u + d * v)]: 1})
@@ -133,7 +149,7 @@ def main():
                 add(combination, x, {number[normal(u, v)]: 1})
         rest, trace = reduced(combination)
         coords = [str(rest.get(j, 0)) for j in free]
-        if words[0] in ("reduce", "image"):
+        if words[0] in ("reduce", "image", "star"):
             return " ".join(["ok coords"] + coords)
         pairs = ["%d:%d" % (k, -trace[k] % p) for k in sorted(trace)]
         return " ".join(["ok certified"] + coords + ["by"] + pairs)
