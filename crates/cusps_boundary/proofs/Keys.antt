@@ -8,7 +8,7 @@ use Rattle.p1_normal.specs.declared.point.Point.{Point}
 use Rattle.p1_normal.specs.Units.{gcd, IsUnit}
 use Rattle.p1_normal.specs.Points.{point, SamePoint, common_divisor}
 use Rattle.p1_normal.proofs.Units.{IsGcd-gcd, IsMultiple-gcd, IsUnit-from_gcd, gcd_from_IsUnit, IsUnit-mul, IsUnit-inverse, IsUnit-mod, IsUnit-from_mod}
-use Rattle.p1_normal.proofs.SamePoints.{SamePoint_sym, SamePoint_trans, common_divisor-same}
+use Rattle.p1_normal.proofs.SamePoints.{SamePoint_sym, SamePoint_trans, across, common_divisor-same}
 use Rattle.cusps_boundary.specs.Keys.{IsShifted, IsCuspKey}
 use Rattle.cusps_boundary.proofs.Lifting.{gcd_comm, scaled_mod}
 
@@ -59,14 +59,10 @@ right_positive g zero N e some = absurd (omega arith)
 right_positive g (suc M) N e some = omega arith
 
 -- ---- the first part
--- a divisor of N and u divides each number that agrees modulo N with a multiple of u
-carried : (N s u w d : ℕ) → (s * u) % N ≡ w % N → d ∣ N → d ∣ u → d ∣ w
-carried N s u w d e divides h = (dvd-mod_iff d divides).0 (subst (λ x. d ∣ x) e ((dvd-mod_iff d divides).1 (dvd-mul_left_of_dvd d h s)))
-
 first-dvd : {N : ℕ} {p q : Point} → SamePoint N p q → gcd p.u N ∣ gcd q.u N
 first-dvd {N} {p} {q} h =
     let is = IsGcd-gcd p.u N in
-    (IsGcd-gcd q.u N).2 (gcd p.u N) (carried N h.factor p.u q.u (gcd p.u N) h.first is.1 is.0) is.1
+    (IsGcd-gcd q.u N).2 (gcd p.u N) (across N h.factor p.u q.u (gcd p.u N) h.first is.1 is.0) is.1
 
 -- two names of one point have first parts with the same common divisor with N
 first_same : {N : ℕ} {p q : Point} → SamePoint N p q → gcd p.u N ≡ gcd q.u N

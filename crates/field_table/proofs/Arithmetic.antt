@@ -18,12 +18,14 @@ residue_product p a b r e = same_residue (residue p r) (residue p a ⊗ residue 
 pub residue_opposite : (p a r : ℕ) → a < p → r ≡ (p - a) % p → residue p r ≡ opposite (residue p a)
 residue_opposite p a r below e =
     let same : a % p ≡ a = mod-eq_of_lt below in
-    same_residue (residue p r) (opposite (residue p a)) (simp (values, value-opposite) (ap (λ n. n % p) e ∙ mod-mod (p - a) p ∙ ap (λ n. (p - n) % p) (sym same)))
+    same_residue (residue p r) (opposite (residue p a)) (simp (values, value-opposite)
+    (ap (λ n. n % p) e ∙ mod-mod (p - a) p ∙ ap (λ n. (p - n) % p) (sym same)))
 
 -- the same for a difference of numbers below p
 pub residue_difference : (p a b r : ℕ) → b < p → r ≡ (a + (p - b)) % p → residue p r ≡ residue p a ⊖ residue p b
 unfolding ◌⊖◌
-residue_difference p a b r below e = residue_sum p a (p - b) r e ∙ ap (λ s. residue p a ⊕ s) (sym (residue-mod p (p - b)) ∙ residue_opposite p b ((p - b) % p) below refl)
+residue_difference p a b r below e = residue_sum p a (p - b) r e ∙ ap (λ s. residue p a ⊕ s)
+    (sym (residue-mod p (p - b)) ∙ residue_opposite p b ((p - b) % p) below refl)
   where
     residue-mod : (p n : ℕ) → residue p (n % p) ≡ residue p n
     residue-mod p n = same_from_mod p (n % p) n (mod-mod n p)

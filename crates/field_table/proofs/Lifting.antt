@@ -39,7 +39,8 @@ lifted_none places values = record {
 }
 
 -- a place with the coefficient 0
-pub lifted_skip : (places values : List ℕ) (j : ℕ) (ts : List (ℕ × ℕ)) → AreLifted places values j ts → j < length places → get_or values j 0 ≡ 0 → AreLifted places values (j + 1) ts
+pub lifted_skip : (places values : List ℕ) (j : ℕ) (ts : List (ℕ × ℕ)) → AreLifted places values j ts → j < length places → get_or values j 0 ≡ 0
+    → AreLifted places values (j + 1) ts
 lifted_skip places values j ts h l none = record {
   combo = h.combo;
   before = λ k i u w v. h.before k i u (omega arith) v;
@@ -52,7 +53,8 @@ lifted_skip places values j ts h l none = record {
 }
 
 -- a place with another
-pub lifted_push : (places values : List ℕ) (j k a : ℕ) (ts : List (ℕ × ℕ)) → IsStrictlyIncreasing places → AreLifted places values j ts → j < length places → j < length values
+pub lifted_push : (places values : List ℕ) (j k a : ℕ) (ts : List (ℕ × ℕ)) → IsStrictlyIncreasing places → AreLifted places values j ts
+    → j < length places → j < length values
     → k ≡ get_or places j 0 → a ≡ get_or values j 0 → a ≢ 0 → AreLifted places values (j + 1) (ts ++ (k, a) ∷ [])
 lifted_push places values j k a ts rises h l u at_k at_a some = record {
   combo = IsCombo-push ts (k, a) h.combo (λ i w. subst (λ n. place_at ts i < n) (sym at_k) (h.before i j w (omega arith) l)) (omega arith);
@@ -66,12 +68,15 @@ lifted_push places values j k a ts rises h l u at_k at_a some = record {
   within = λ d b. All-push (λ t. t.0 < d) ts (k, a) (h.within d b) (subst (λ n. n < d) (sym at_k) (All-get_or (λ n. n < d) places j 0 l b));
 }
   where
-    by_term : (i n : ℕ) → i < length (ts ++ (k, a) ∷ []) → j + 1 ≤ n → n < length places → (i < length ts) ⊎ (length ts ≤ i) → place_at (ts ++ (k, a) ∷ []) i < get_or places n 0
-    by_term i n w v y (inl here) = subst (λ t. t.0 < get_or places n 0) (sym (get_or-append ts ((k, a) ∷ []) (0, 0) i here)) (h.before i n here (omega arith) y)
+    by_term : (i n : ℕ) → i < length (ts ++ (k, a) ∷ []) → j + 1 ≤ n → n < length places → (i < length ts) ⊎ (length ts ≤ i)
+        → place_at (ts ++ (k, a) ∷ []) i < get_or places n 0
+    by_term i n w v y (inl here) = subst (λ t. t.0 < get_or places n 0) (sym (get_or-append ts ((k, a) ∷ []) (0, 0) i here))
+        (h.before i n here (omega arith) y)
     by_term i n w v y (inr past) =
         subst (λ t. t.0 < get_or places n 0) (sym (get_or_push ts (k, a) (0, 0) i (omega (arith, length-append ts ((k, a) ∷ [])))))
         (subst (λ m. m < get_or places n 0) (sym at_k) (rising_at places rises j n (omega arith) y))
 
 -- all places
-pub lifted_all : (places values : List ℕ) (ts : List (ℕ × ℕ)) → AreLifted places values (length places) ts → (p : ℕ) → sparse p ts ≡ at_places places (dense p values)
+pub lifted_all : (places values : List ℕ) (ts : List (ℕ × ℕ)) → AreLifted places values (length places) ts → (p : ℕ)
+    → sparse p ts ≡ at_places places (dense p values)
 lifted_all places values ts h p = h.vector p ∙ ap (λ ks. at_places ks (dense p values)) (take-length places)

@@ -60,10 +60,12 @@ pub record IsRest (p c b q rest : ℕ) : Type 0 where
   pub below : rest < p + p
   pub same : rest % p ≡ (c * b) % p
 
-pub rest_by_quotient : (p c b q : ℕ) → b < p → p ≤ 2 ^ 31 → q ≡ (ratio_of p c * b) / word p → IsRest p c b q ((c * b % 2 ^ 32 + (2 ^ 32 - q * p % 2 ^ 32)) % 2 ^ 32)
+pub rest_by_quotient : (p c b q : ℕ) → b < p → p ≤ 2 ^ 31 → q ≡ (ratio_of p c * b) / word p
+    → IsRest p c b q ((c * b % 2 ^ 32 + (2 ^ 32 - q * p % 2 ^ 32)) % 2 ^ 32)
 rest_by_quotient p c b q below small e =
     let w : b < word p = below_word p b below small in
     let low : q * p ≤ c * b = subst (λ n. n * p ≤ c * b) (sym e) (quotient_low p c b (word p) (omega arith) (omega arith)) in
-    let high : c * b < q * p + (p + p) = subst (λ n. c * b < n * p + (p + p)) (sym e) (quotient_high p c b (word p) (omega arith) (omega arith) (omega arith)) in
+    let high : c * b < q * p + (p + p) = subst (λ n. c * b < n * p + (p + p)) (sym e)
+    (quotient_high p c b (word p) (omega arith) (omega arith) (omega arith)) in
     let rest : (c * b % 2 ^ 32 + (2 ^ 32 - q * p % 2 ^ 32)) % 2 ^ 32 ≡ c * b - q * p = wrapped_difference (c * b) (q * p) low (omega arith) in
     record { below = omega arith; same = ap (λ n. n % p) rest ∙ sub_mul-mod (c * b) q p low }

@@ -23,7 +23,8 @@ by_trial k p tried small = record { prime = prime_by_trial k p tried; small = lt
 all_small_primes : Each IsSmallPrime CHARACTERISTICS
 all_small_primes = more (by_trial 0 2 refl refl) (more (by_trial 0 3 refl refl) (more (by_trial 1 5 refl refl) (more (by_trial 1 7 refl refl)
     (more (by_trial 2 11 refl refl) (more (by_trial 2 13 refl refl) (more (by_trial 3 17 refl refl) (more (by_trial 9 101 refl refl)
-    (more (by_trial 30 1009 refl refl) (more (by_trial 99 10007 refl refl) (more (by_trial 177 32003 refl refl) (more (by_trial 254 65521 refl refl) none)))))))))))
+    (more (by_trial 30 1009 refl refl) (more (by_trial 99 10007 refl refl)
+    (more (by_trial 177 32003 refl refl) (more (by_trial 254 65521 refl refl) none)))))))))))
 
 -- what holds of each number of a list holds of a number that the test finds there
 at_found : (P : ℕ → Type 0) (p : ℕ) (qs : List ℕ) → Each P qs → list_any (nat_eq p) qs ≡ true → P p

@@ -6,7 +6,7 @@ ghost use Rattle.linear_algebra.specs.Residue.{residue};
 ghost use Rattle.linear_algebra.specs.Sparse.{IsCombo, sparse};
 
 use crate::field::Field;
-use crate::gather::{gathered, nonzero_terms, order, reduced};
+use crate::gather::{nonzero_terms, order, reduced, sums_by_place};
 use crate::memory::OutOfMemory;
 use crate::search::number_at;
 use std::alloc::Global;
@@ -44,7 +44,7 @@ impl Combo {
     {
         let mut terms = reduced(alloc, field, terms)?;
         order(field, &mut terms);
-        Ok(Combo::of(gathered(alloc, field, &terms)?))
+        Ok(Combo::of(sums_by_place(alloc, field, &terms)?))
     }
 
     /// The combination of the numbers of a list that are not 0, each at its place in the list.

@@ -73,7 +73,7 @@ fn push_nonzero(terms: &mut Vec<(u32, u32)>, place: u32, residue: u32) -> Result
 }
 
 /// The one term for each place of ordered terms, without those whose residues sum to 0.
-pub fn gathered(
+pub fn sums_by_place(
     alloc: Global,
     field: Field,
     terms: &[(u32, u32)],

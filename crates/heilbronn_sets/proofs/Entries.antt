@@ -91,7 +91,8 @@ none_past n a b c q r e d h l m k =
     let o : e ≡ q + u + t = omega arith in
     let p : d ≡ q + u + t + 1 + s = omega arith in
     let first : (b + 1 + i) * q + r ≡ n + b * (q + u) = ap (λ x. x * q + r) (sym f) ∙ h.value ∙ ap (λ x. n + b * x) g in
-    let second : (b + 1 + i) * (q + u + t + 1 + s) ≡ n + b * (q + u + t) = ap (λ x. x * (q + u + t + 1 + s)) (sym f) ∙ ap (λ y. a * y) (sym p) ∙ k.value ∙ ap (λ x. n + b * x) o in
+    let second : (b + 1 + i) * (q + u + t + 1 + s) ≡ n + b * (q + u + t) = ap (λ x. x * (q + u + t + 1 + s)) (sym f) ∙ ap (λ y. a * y) (sym p)
+    ∙ k.value ∙ ap (λ x. n + b * x) o in
     let below : r < b + 1 + i = subst (λ x. r < x) f h.below in
     past n b q r i u t s first second below
   where

@@ -24,13 +24,16 @@ same_test false true f g = g refl
 same_test false false f g = refl
 
 -- a d = n + b c says that the determinant is n
-pub determinant_test : (n : ℕ) (m : Matrix) (x y z : ℤ) → FitsSigned w64 x → FitsSigned w64 y → FitsSigned w64 z → FitsSigned w64 (y +ℤ z) → x ≡ m.a *ℤ m.d → y ≡ pos n → z ≡ m.b *ℤ m.c →
+pub determinant_test : (n : ℕ) (m : Matrix) (x y z : ℤ) → FitsSigned w64 x → FitsSigned w64 y → FitsSigned w64 z → FitsSigned w64 (y +ℤ z)
+    → x ≡ m.a *ℤ m.d → y ≡ pos n → z ≡ m.b *ℤ m.c →
     nat_eq (of_z w64 x) (of_z w64 (to_z w64 (of_z w64 y) +ℤ to_z w64 (of_z w64 z))) ≡ has_determinant n m
 determinant_test n m x y z fx fy fz fs ex ey ez =
     ap (λ s. nat_eq (of_z w64 x) (of_z w64 s)) (ap (λ u. u +ℤ to_z w64 (of_z w64 z)) (to_z-of_z w64 y fy) ∙ ap (λ v. y +ℤ v) (to_z-of_z w64 z fz))
     ∙ same_test (nat_eq (of_z w64 x) (of_z w64 (y +ℤ z))) (has_determinant n m)
-    (λ e. (Decides-int_eq (determinant m) (pos n)).1 (moved (m.a *ℤ m.d) (m.b *ℤ m.c) (pos n) (sym ex ∙ read (eqb-true (of_z w64 x) (of_z w64 (y +ℤ z)) e) ∙ sum)))
-    (λ e. eq-eqb (of_z w64 x) (of_z w64 (y +ℤ z)) (ap (of_z w64) (ex ∙ back (m.a *ℤ m.d) (m.b *ℤ m.c) (pos n) ((Decides-int_eq (determinant m) (pos n)).0 e) ∙ sym sum)))
+    (λ e. (Decides-int_eq (determinant m) (pos n)).1 (moved (m.a *ℤ m.d) (m.b *ℤ m.c) (pos n)
+    (sym ex ∙ read (eqb-true (of_z w64 x) (of_z w64 (y +ℤ z)) e) ∙ sum)))
+    (λ e. eq-eqb (of_z w64 x) (of_z w64 (y +ℤ z)) (ap (of_z w64) (ex ∙ back (m.a *ℤ m.d) (m.b *ℤ m.c) (pos n)
+    ((Decides-int_eq (determinant m) (pos n)).0 e) ∙ sym sum)))
   where
     sum : y +ℤ z ≡ pos n +ℤ (m.b *ℤ m.c)
     sum = ap (λ u. u +ℤ z) ey ∙ ap (λ v. pos n +ℤ v) ez
@@ -58,9 +61,11 @@ pub record FitUpTo (n : ℕ) (ms : List Matrix) (i : ℕ) : Type 0 where
   pub each : (k : ℕ) → k < i → fits n (get_or ms k zero_matrix) ≡ true
 
 -- a matrix has a fault where it does not fit
-fault_cases : (n k : ℕ) (m : Matrix) (f : SetFault) → matrix_fault n m k ≡ Some f → (fits n m ≡ false) × (Some (cond (is_small m) (Determinant k) (Entry k)) ≡ Some f)
+fault_cases : (n k : ℕ) (m : Matrix) (f : SetFault) → matrix_fault n m k ≡ Some f
+    → (fits n m ≡ false) × (Some (cond (is_small m) (Determinant k) (Entry k)) ≡ Some f)
 fault_cases n k m f e =
-    cond_both (fits n m) None (Some (cond (is_small m) (Determinant k) (Entry k))) (λ o. o ≡ Some f → (fits n m ≡ false) × (Some (cond (is_small m) (Determinant k) (Entry k)) ≡ Some f))
+    cond_both (fits n m) None (Some (cond (is_small m) (Determinant k) (Entry k)))
+    (λ o. o ≡ Some f → (fits n m ≡ false) × (Some (cond (is_small m) (Determinant k) (Entry k)) ≡ Some f))
     (λ yes h. absurd (none-some f h)) (λ fails h. (fails, h)) e
 
 -- and none where it fits
@@ -74,18 +79,21 @@ pub fit_more : (n : ℕ) (ms : List Matrix) (i : ℕ) → FitUpTo n ms i → mat
 fit_more n ms i h e = record { each = below_more (λ k. fits n (get_or ms k zero_matrix) ≡ true) i h.each (no_fault n i (get_or ms i zero_matrix) e) }
 
 -- the first matrix that does not fit follows those that do
-first_place : (n : ℕ) (ms : List Matrix) (i : ℕ) → FitUpTo n ms i → i ≤ length ms → (i < length ms → fits n (get_or ms i zero_matrix) ≡ false) → position_or_len (λ m. not (fits n m)) ms ≡ i
+first_place : (n : ℕ) (ms : List Matrix) (i : ℕ) → FitUpTo n ms i → i ≤ length ms → (i < length ms → fits n (get_or ms i zero_matrix) ≡ false)
+    → position_or_len (λ m. not (fits n m)) ms ≡ i
 first_place n ms i h l e = position_or_len_is (λ m. not (fits n m)) ms i zero_matrix l (λ k u. ap not (h.each k u)) (λ u. ap not (e u))
 
 -- where all fit, the list has no fault
 pub list_fault-none : (n : ℕ) (ms : List Matrix) (i : ℕ) → length ms ≤ i → FitUpTo n ms i → list_fault n ms ≡ None
 list_fault-none n ms i l h =
     let whole : FitUpTo n ms (length ms) = record { each = λ k u. h.each k (omega arith) } in
-    ap (fault_at ms) (ap (λ j. cond (nat_lt j (length ms)) (Some j) None) (first_place n ms (length ms) whole (omega arith) (λ u. absurd (omega arith)))
+    ap (fault_at ms) (ap (λ j. cond (nat_lt j (length ms)) (Some j) None)
+    (first_place n ms (length ms) whole (omega arith) (λ u. absurd (omega arith)))
     ∙ ap (λ t. cond t (Some (length ms)) None) (le-ltb (length ms) (length ms) (omega arith)))
 
 -- where the first i fit and the next has a fault, that is the list's
-pub list_fault-some : (n : ℕ) (ms : List Matrix) (i : ℕ) (f : SetFault) → FitUpTo n ms i → i < length ms → matrix_fault n (get_or ms i zero_matrix) i ≡ Some f → list_fault n ms ≡ Some f
+pub list_fault-some : (n : ℕ) (ms : List Matrix) (i : ℕ) (f : SetFault) → FitUpTo n ms i → i < length ms
+    → matrix_fault n (get_or ms i zero_matrix) i ≡ Some f → list_fault n ms ≡ Some f
 list_fault-some n ms i f h l e =
     let (fails, is) = fault_cases n i (get_or ms i zero_matrix) f e in
     ap (fault_at ms) (ap (λ j. cond (nat_lt j (length ms)) (Some j) None) (first_place n ms i h (omega arith) (λ u. fails))
@@ -95,8 +103,10 @@ list_fault-some n ms i f h l e =
 -- what the test of entries says
 IsSmall-from_test : (m : Matrix) → is_small m ≡ true → IsSmall m
 IsSmall-from_test m e =
-    let (three, d) = and_parts (nat_le (unsigned_abs m.a) MAX_ENTRY && nat_le (unsigned_abs m.b) MAX_ENTRY && nat_le (unsigned_abs m.c) MAX_ENTRY) (nat_le (unsigned_abs m.d) MAX_ENTRY) e in
-    let (two, c) = and_parts (nat_le (unsigned_abs m.a) MAX_ENTRY && nat_le (unsigned_abs m.b) MAX_ENTRY) (nat_le (unsigned_abs m.c) MAX_ENTRY) three in
+    let (three, d) = and_parts (nat_le (unsigned_abs m.a) MAX_ENTRY && nat_le (unsigned_abs m.b) MAX_ENTRY && nat_le (unsigned_abs m.c) MAX_ENTRY)
+    (nat_le (unsigned_abs m.d) MAX_ENTRY) e in
+    let (two, c) = and_parts (nat_le (unsigned_abs m.a) MAX_ENTRY && nat_le (unsigned_abs m.b) MAX_ENTRY) (nat_le (unsigned_abs m.c) MAX_ENTRY)
+    three in
     let (a, b) = and_parts (nat_le (unsigned_abs m.a) MAX_ENTRY) (nat_le (unsigned_abs m.b) MAX_ENTRY) two in
     record {
       a = leb-true (unsigned_abs m.a) MAX_ENTRY a;
@@ -115,7 +125,8 @@ all_fit : (n : ℕ) (ms : List Matrix) → list_fault n ms ≡ None → (k : ℕ
 all_fit n ms e k l = elim (cases_lt (position_or_len (λ m. not (fits n m)) ms) (length ms)) [
   | inl within ↦
       let j = position_or_len (λ m. not (fits n m)) ms in
-      absurd (none-some (cond (is_small (get_or ms j zero_matrix)) (Determinant j) (Entry j)) (sym e ∙ ap (λ t. fault_at ms (cond t (Some j) None)) (lt-ltb j (length ms) within)))
+      absurd (none-some (cond (is_small (get_or ms j zero_matrix)) (Determinant j) (Entry j))
+      (sym e ∙ ap (λ t. fault_at ms (cond t (Some j) None)) (lt-ltb j (length ms) within)))
   | inr past ↦ not_true (fits n (get_or ms k zero_matrix)) (fails_before_first (λ m. not (fits n m)) ms k zero_matrix (omega arith))
 ]
 
@@ -126,6 +137,9 @@ IsMatrixSet-from_no_fault n ms some limited few e = record {
   positive = some;
   limited = limited;
   few = few;
-  small = All-from_get_or IsSmall ms zero_matrix (λ k l. IsSmall-from_test (get_or ms k zero_matrix) (and_parts (is_small (get_or ms k zero_matrix)) (has_determinant n (get_or ms k zero_matrix)) (all_fit n ms e k l)).0);
-  determinants = All-from_get_or (λ m. determinant m ≡ pos n) ms zero_matrix (λ k l. (Decides-int_eq (determinant (get_or ms k zero_matrix)) (pos n)).0 (and_parts (is_small (get_or ms k zero_matrix)) (has_determinant n (get_or ms k zero_matrix)) (all_fit n ms e k l)).1);
+  small = All-from_get_or IsSmall ms zero_matrix (λ k l. IsSmall-from_test (get_or ms k zero_matrix)
+      (and_parts (is_small (get_or ms k zero_matrix)) (has_determinant n (get_or ms k zero_matrix)) (all_fit n ms e k l)).0);
+  determinants = All-from_get_or (λ m. determinant m ≡ pos n) ms zero_matrix
+      (λ k l. (Decides-int_eq (determinant (get_or ms k zero_matrix)) (pos n)).0
+      (and_parts (is_small (get_or ms k zero_matrix)) (has_determinant n (get_or ms k zero_matrix)) (all_fit n ms e k l)).1);
 }

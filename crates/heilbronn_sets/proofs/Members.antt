@@ -38,7 +38,8 @@ Contains-map f (y ∷ ys) x (suc k, l, same) = let (j, m, here) = Contains-map f
 Contains-flat_map : {X Y : Type 0} (f : X → List Y) (xs : List X) (x : X) (y : Y) → Contains xs x → Contains (f x) y → Contains (flat_map f xs) y
 Contains-flat_map f [] x y (k, l, same) h = absurd (omega arith)
 Contains-flat_map f (z ∷ zs) x y (zero, l, same) h = Contains-append_left (f z) (flat_map f zs) y (subst (λ u. Contains (f u) y) (sym same) h)
-Contains-flat_map f (z ∷ zs) x y (suc k, l, same) h = Contains-append_right (f z) (flat_map f zs) y (Contains-flat_map f zs x y (k, omega arith, same) h)
+Contains-flat_map f (z ∷ zs) x y (suc k, l, same) h = Contains-append_right (f z) (flat_map f zs) y
+    (Contains-flat_map f zs x y (k, omega arith, same) h)
 
 -- the numbers up to n are entries
 Contains-entries : (n k : ℕ) → k ≤ n → Contains (entries n) k
@@ -63,25 +64,31 @@ IsNatural m = (pos 0 ≤ℤ m.b) × (pos 0 ≤ℤ m.c)
 All-quadruples : (n : ℕ) → All IsNatural (quadruples n)
 unfolding quadruples IsNatural
 All-quadruples n =
-    All-flat_map IsNatural (λ a. flat_map (λ b. flat_map (λ c. map (λ d. matrix (pos a) (pos b) (pos c) (pos d)) (entries n)) (entries n)) (entries n))
+    All-flat_map IsNatural (λ a. flat_map (λ b. flat_map (λ c. map (λ d. matrix (pos a) (pos b) (pos c) (pos d)) (entries n)) (entries n))
+    (entries n))
     (λ a. All-flat_map IsNatural (λ b. flat_map (λ c. map (λ d. matrix (pos a) (pos b) (pos c) (pos d)) (entries n)) (entries n))
     (λ b. All-flat_map IsNatural (λ c. map (λ d. matrix (pos a) (pos b) (pos c) (pos d)) (entries n))
-    (λ c. All-map IsNatural (λ d. matrix (pos a) (pos b) (pos c) (pos d)) (entries n) (λ k d l. (omega (arith, ints), omega (arith, ints)))) (entries n)) (entries n)) (entries n)
+    (λ c. All-map IsNatural (λ d. matrix (pos a) (pos b) (pos c) (pos d)) (entries n) (λ k d l. (omega (arith, ints), omega (arith, ints))))
+    (entries n)) (entries n)) (entries n)
 
 -- each matrix with entries up to n is a quadruple
 Contains-quadruples : (n a b c d : ℕ) → a ≤ n → b ≤ n → c ≤ n → d ≤ n → Contains (quadruples n) (matrix (pos a) (pos b) (pos c) (pos d))
 unfolding quadruples
 Contains-quadruples n a b c d h k l m =
-    Contains-flat_map (λ a. flat_map (λ b. flat_map (λ c. map (λ d. matrix (pos a) (pos b) (pos c) (pos d)) (entries n)) (entries n)) (entries n)) (entries n) a (matrix (pos a) (pos b) (pos c) (pos d)) (Contains-entries n a h)
-    (Contains-flat_map (λ b. flat_map (λ c. map (λ d. matrix (pos a) (pos b) (pos c) (pos d)) (entries n)) (entries n)) (entries n) b (matrix (pos a) (pos b) (pos c) (pos d)) (Contains-entries n b k)
-    (Contains-flat_map (λ c. map (λ d. matrix (pos a) (pos b) (pos c) (pos d)) (entries n)) (entries n) c (matrix (pos a) (pos b) (pos c) (pos d)) (Contains-entries n c l)
+    Contains-flat_map (λ a. flat_map (λ b. flat_map (λ c. map (λ d. matrix (pos a) (pos b) (pos c) (pos d)) (entries n)) (entries n)) (entries n))
+    (entries n) a (matrix (pos a) (pos b) (pos c) (pos d)) (Contains-entries n a h)
+    (Contains-flat_map (λ b. flat_map (λ c. map (λ d. matrix (pos a) (pos b) (pos c) (pos d)) (entries n)) (entries n)) (entries n) b
+    (matrix (pos a) (pos b) (pos c) (pos d)) (Contains-entries n b k)
+    (Contains-flat_map (λ c. map (λ d. matrix (pos a) (pos b) (pos c) (pos d)) (entries n)) (entries n) c (matrix (pos a) (pos b) (pos c) (pos d))
+    (Contains-entries n c l)
     (Contains-map (λ d. matrix (pos a) (pos b) (pos c) (pos d)) (entries n) d (Contains-entries n d m))))
 
 -- there are (n + 1)^4 quadruples
 length-quadruples : (n : ℕ) → length (quadruples n) ≡ (n + 1) * ((n + 1) * ((n + 1) * (n + 1)))
 unfolding quadruples
 length-quadruples n =
-    length-flat_map_same (λ a. flat_map (λ b. flat_map (λ c. map (λ d. matrix (pos a) (pos b) (pos c) (pos d)) (entries n)) (entries n)) (entries n)) ((n + 1) * ((n + 1) * (n + 1))) three (entries n)
+    length-flat_map_same (λ a. flat_map (λ b. flat_map (λ c. map (λ d. matrix (pos a) (pos b) (pos c) (pos d)) (entries n)) (entries n)) (entries n))
+    ((n + 1) * ((n + 1) * (n + 1))) three (entries n)
     ∙ ap (λ k. k * ((n + 1) * ((n + 1) * (n + 1)))) (length-range_with_len 0 (n + 1))
   where
     one : (a b c : ℕ) → length (map (λ d. matrix (pos a) (pos b) (pos c) (pos d)) (entries n)) ≡ n + 1
@@ -91,8 +98,10 @@ length-quadruples n =
     two a b = length-flat_map_same (λ c. map (λ d. matrix (pos a) (pos b) (pos c) (pos d)) (entries n)) (n + 1) (one a b) (entries n)
         ∙ ap (λ k. k * (n + 1)) (length-range_with_len 0 (n + 1))
 
-    three : (a : ℕ) → length (flat_map (λ b. flat_map (λ c. map (λ d. matrix (pos a) (pos b) (pos c) (pos d)) (entries n)) (entries n)) (entries n)) ≡ (n + 1) * ((n + 1) * (n + 1))
-    three a = length-flat_map_same (λ b. flat_map (λ c. map (λ d. matrix (pos a) (pos b) (pos c) (pos d)) (entries n)) (entries n)) ((n + 1) * (n + 1)) (two a) (entries n)
+    three : (a : ℕ) → length (flat_map (λ b. flat_map (λ c. map (λ d. matrix (pos a) (pos b) (pos c) (pos d)) (entries n)) (entries n)) (entries n))
+        ≡ (n + 1) * ((n + 1) * (n + 1))
+    three a = length-flat_map_same (λ b. flat_map (λ c. map (λ d. matrix (pos a) (pos b) (pos c) (pos d)) (entries n)) (entries n))
+        ((n + 1) * (n + 1)) (two a) (entries n)
         ∙ ap (λ k. k * ((n + 1) * (n + 1))) (length-range_with_len 0 (n + 1))
 
 -- ---- members
@@ -123,7 +132,15 @@ member_entries n m h =
     let (d, ed) = natural m.d (omega (arith, ints)) in
     let is : m ≡ matrix (pos a) (pos b) (pos c) (pos d) = λ i. record { a = ea i; b = eb i; c = ec i; d = ed i } in
     let k : IsMerel n (matrix (pos a) (pos b) (pos c) (pos d)) = subst (IsMerel n) is h in
-    record { a = a; b = b; c = c; d = d; is = is; entries = passes_entries n a b c d (record { left = k.left; right = k.right; value = k.determinant_is }) }
+    record {
+      a = a;
+      b = b;
+      c = c;
+      d = d;
+      is = is;
+      entries = passes_entries n a b c d
+          (record { left = k.left; right = k.right; value = k.determinant_is });
+    }
 
 -- all of Merel's set is what its definition asks
 pub All-merel_matrices : (n : ℕ) → All (IsMerel n) (merel_matrices n)
@@ -160,7 +177,8 @@ IsMerel-trace n m h =
 
 -- the fourth power
 fourth : (m : ℕ) → m * (m * (m * m)) ≡ m ^ 4
-fourth m = sym (pow-succ' m 3 ∙ ap (λ k. m * k) (pow-succ' m 2 ∙ ap (λ k. m * k) (pow-succ' m 1 ∙ ap (λ k. m * k) (pow-succ' m 0 ∙ ap (λ k. m * k) (pow-zero m) ∙ omega arith))))
+fourth m = sym (pow-succ' m 3 ∙ ap (λ k. m * k) (pow-succ' m 2 ∙ ap (λ k. m * k)
+    (pow-succ' m 1 ∙ ap (λ k. m * k) (pow-succ' m 0 ∙ ap (λ k. m * k) (pow-zero m) ∙ omega arith))))
 
 -- there are at most (n + 1)^4 of them
 pub length-merel_matrices : (n : ℕ) → length (merel_matrices n) ≤ (n + 1) ^ 4
@@ -192,7 +210,8 @@ merel_matrices_few n small =
     below k f b l e m = omega (arith, l, e, m)
 
 -- Merel's set is a set of matrices of determinant n
-pub IsMatrixSet-merel_matrices : (n : ℕ) (ms : List Matrix) → 0 < n → n ≤ MAX_DET → ms ≡ merel_matrices n → IsMatrixSet (record { det = n; list = ms })
+pub IsMatrixSet-merel_matrices : (n : ℕ) (ms : List Matrix) → 0 < n → n ≤ MAX_DET → ms ≡ merel_matrices n
+    → IsMatrixSet (record { det = n; list = ms })
 IsMatrixSet-merel_matrices n ms some few e = subst (λ xs. IsMatrixSet (record { det = n; list = xs })) (sym e) (record {
   positive = some;
   limited = few;

@@ -31,10 +31,12 @@ shift_at zero c j = ap c (let e : j ≡ 0 + j = omega arith in e)
 shift_at (suc n) c j = shift_at n (tail c) j ∙ ap c (let e : suc (n + j) ≡ suc n + j = omega arith in e)
 
 -- a combination of joined rows
-combination-append : {p : ℕ} (c : Vector p) (xs ys : List (Vector p)) → combination c (xs ++ ys) ≡ combination c xs ⊞ combination (shift (length xs) c) ys
+combination-append : {p : ℕ} (c : Vector p) (xs ys : List (Vector p)) → combination c (xs ++ ys) ≡ combination c xs
+    ⊞ combination (shift (length xs) c) ys
 unfolding shift
 combination-append c [] ys = sym (zeros-plus (combination c ys))
-combination-append c (x ∷ xs) ys = ap (λ v. (c 0 ⊡ x) ⊞ v) (combination-append (tail c) xs ys) ∙ sym (plus_assoc (c 0 ⊡ x) (combination (tail c) xs) (combination (shift (length xs) (tail c)) ys))
+combination-append c (x ∷ xs) ys = ap (λ v. (c 0 ⊡ x) ⊞ v) (combination-append (tail c) xs ys)
+    ∙ sym (plus_assoc (c 0 ⊡ x) (combination (tail c) xs) (combination (shift (length xs) (tail c)) ys))
 
 -- the unit vector at a place below d has length d
 EndsBefore-unit : {p : ℕ} (d k : ℕ) → k < d → EndsBefore d (unit {p = p} k)
@@ -42,11 +44,18 @@ EndsBefore-unit d k l i u = unit_elsewhere k i (λ e. let w : k ≡ i = e in ome
 
 -- the first d unit vectors are independent
 units_independent : {p : ℕ} (d : ℕ) → Independent (map (unit {p = p}) (range_with_len 0 d))
-units_independent d = record { only_zero = λ c z j l. sym (at_places_at (range_with_len 0 d) c (range_rising d) j (subst (λ n. j < n) (length-map (range_with_len 0 d) unit) l)) ∙ ap (λ v. v (get_or (range_with_len 0 d) j 0)) z }
+units_independent d = record {
+  only_zero = λ c z j l. sym (at_places_at (range_with_len 0 d) c (range_rising d) j
+      (subst (λ n. j < n) (length-map (range_with_len 0 d) unit) l)) ∙ ap (λ v. v (get_or (range_with_len 0 d) j 0)) z;
+}
 
 -- and span the vectors of length d
 units_span : {p : ℕ} (d : ℕ) (v : Vector p) → EndsBefore d v → InSpan (map unit (range_with_len 0 d)) v
-units_span {p} d v ends = record { coefficients = λ j. v (get_or (range_with_len 0 d) j 0); is_combination = sym (at_places_all (range_with_len 0 d) v (range_rising d) (λ k away. at k away (cases_lt k d))) }
+units_span {p} d v ends = record {
+  coefficients = λ j. v (get_or (range_with_len 0 d) j 0);
+  is_combination =
+      sym (at_places_all (range_with_len 0 d) v (range_rising d) (λ k away. at k away (cases_lt k d)));
+}
   where
     at : (k : ℕ) → ((j : ℕ) → j < length (range_with_len 0 d) → get_or (range_with_len 0 d) j 0 ≢ k) → (k < d) ⊎ (d ≤ k) → v k ≡ residue p 0
     at k away (inl l) = absurd (away k (omega (arith, length-range_with_len 0 d)) (in_range d k l))
@@ -88,16 +97,20 @@ module _ {p : ℕ} (prime : IsPrime p) (d : ℕ) (rows basis : List (Vector p)) 
       trimmed : (c : Vector p) → combination c (frees ++ basis) ≡ zeros → trim frees c ≡ zeros
       trimmed c z = coordinates_once positive d rows ends zeros (trim frees c) zeros (record {
         ends = subst (λ n. EndsBefore n (trim frees c)) length-frees (EndsBefore-trim c frees);
-        congruent = subst (InSpan rows) (sym (plus_and_minus positive (rest c) (combination c frees)) ∙ ap (λ v. minus v (combination c frees)) (sum c z) ∙ ap (minus zeros) (sym (combination-trim c frees)))
+        congruent = subst (InSpan rows) (sym (plus_and_minus positive (rest c) (combination c frees))
+            ∙ ap (λ v. minus v (combination c frees)) (sum c z) ∙ ap (minus zeros) (sym (combination-trim c frees)))
             (b.same.back (rest c) (record { coefficients = shift (length frees) c; is_combination = refl }));
       }) (coordinates-zeros positive d rows ends)
 
       rest_zeros : (c : Vector p) → combination c (frees ++ basis) ≡ zeros → rest c ≡ zeros
-      rest_zeros c z = sym (plus-zeros (rest c)) ∙ ap (λ v. rest c ⊞ v) (sym (sym (combination-trim c frees) ∙ ap (λ e. combination e frees) (trimmed c z) ∙ combination-zeros frees)) ∙ sum c z
+      rest_zeros c z = sym (plus-zeros (rest c)) ∙ ap (λ v. rest c ⊞ v)
+          (sym (sym (combination-trim c frees) ∙ ap (λ e. combination e frees) (trimmed c z) ∙ combination-zeros frees)) ∙ sum c z
 
-      by_side : (c : Vector p) → combination c (frees ++ basis) ≡ zeros → (j : ℕ) → j < length (frees ++ basis) → (j < length frees) ⊎ (length frees ≤ j) → c j ≡ residue p 0
+      by_side : (c : Vector p) → combination c (frees ++ basis) ≡ zeros → (j : ℕ) → j < length (frees ++ basis)
+          → (j < length frees) ⊎ (length frees ≤ j) → c j ≡ residue p 0
       by_side c z j l (inl u) = sym (trim_at c frees j u) ∙ ap (λ v. v j) (trimmed c z)
-      by_side c z j l (inr u) = ap c (let e : j ≡ length frees + (j - length frees) = omega arith in e) ∙ sym (shift_at (length frees) c (j - length frees))
+      by_side c z j l (inr u) = ap c (let e : j ≡ length frees + (j - length frees) = omega arith in e)
+          ∙ sym (shift_at (length frees) c (j - length frees))
           ∙ b.independent.only_zero (shift (length frees) c) (rest_zeros c z) (j - length frees) (omega (arith, length-append frees basis))
 
   -- and have length d
@@ -105,7 +118,8 @@ module _ {p : ℕ} (prime : IsPrime p) (d : ℕ) (rows basis : List (Vector p)) 
   unfolding frees
   joined_ends = Each-append frees basis
       (Each-rows (EndsBefore d) frees (λ j l. let u : j < length (free_places d rows) = subst (λ n. j < n) length-frees l in
-      subst (EndsBefore d) (sym (row-map unit (free_places d rows) j 0 u)) (EndsBefore-unit d (get_or (free_places d rows) j 0) (free_place positive d rows j u).0)))
+      subst (EndsBefore d) (sym (row-map unit (free_places d rows) j 0 u))
+      (EndsBefore-unit d (get_or (free_places d rows) j 0) (free_place positive d rows j u).0)))
       (Each-rows (EndsBefore d) basis (λ j l. EndsBefore-InSpan d rows (row basis j) ends (b.same.back (row basis j) (InSpan-row basis j l))))
 
   -- so they are as many as the places below d
@@ -114,9 +128,15 @@ module _ {p : ℕ} (prime : IsPrime p) (d : ℕ) (rows basis : List (Vector p)) 
   length-free_places =
       let units : List (Vector p) = map unit (range_with_len 0 d) in
       let sized : length (map (unit {p = p}) (range_with_len 0 d)) ≡ d = length-map (range_with_len 0 d) unit ∙ length-range_with_len 0 d in
-      let few : length (frees ++ basis) ≤ length (map (unit {p = p}) (range_with_len 0 d)) = independent_le prime (map unit (range_with_len 0 d)) (frees ++ basis) joined_independent (Each-weaker (frees ++ basis) (units_span d) joined_ends) in
-      let many : length (map (unit {p = p}) (range_with_len 0 d)) ≤ length (frees ++ basis) = independent_le prime (frees ++ basis) (map unit (range_with_len 0 d)) (units_independent d)
-      (Each-rows (InSpan (frees ++ basis)) (map unit (range_with_len 0 d)) (λ j l. let u : j < length (range_with_len 0 d) = subst (λ n. j < n) (length-map (range_with_len 0 d) unit) l in
+      let few : length (frees ++ basis) ≤ length (map (unit {p = p}) (range_with_len 0 d)) =
+      independent_le prime (map unit (range_with_len 0 d)) (frees ++ basis) joined_independent
+      (Each-weaker (frees ++ basis) (units_span d) joined_ends) in
+      let many : length (map (unit {p = p}) (range_with_len 0 d)) ≤ length (frees ++ basis) =
+      independent_le prime (frees ++ basis) (map unit (range_with_len 0 d)) (units_independent d)
+      (Each-rows (InSpan (frees ++ basis)) (map unit (range_with_len 0 d))
+      (λ j l. let u : j < length (range_with_len 0 d) = subst (λ n. j < n) (length-map (range_with_len 0 d) unit) l in
       let w : j < d = omega (arith, length-range_with_len 0 d) in
-      subst (InSpan (frees ++ basis)) (sym (row-map unit (range_with_len 0 d) j 0 u)) (joined_span (unit (get_or (range_with_len 0 d) j 0)) (EndsBefore-unit d (get_or (range_with_len 0 d) j 0) (omega (arith, in_range d j w)))))) in
+      subst (InSpan (frees ++ basis)) (sym (row-map unit (range_with_len 0 d) j 0 u))
+      (joined_span (unit (get_or (range_with_len 0 d) j 0)) (EndsBefore-unit d (get_or (range_with_len 0 d) j 0)
+      (omega (arith, in_range d j w)))))) in
       omega (arith, length-append frees basis, length-frees, sized, few, many)

@@ -17,7 +17,8 @@ pub dense_plus : (p c : ℕ) (xs ys zs : List ℕ) → length xs ≡ length ys �
     → ((k : ℕ) → k < length ys → get_or zs k 0 ≡ (get_or xs k 0 + c * get_or ys k 0) % p)
     → dense p zs ≡ dense p xs ⊞ residue p c ⊡ dense p ys
 unfolding dense
-dense_plus p c xs ys zs e f each = λ i k. same_residue (residue p (get_or zs k 0)) (residue p (get_or xs k 0) ⊕ residue p c ⊗ residue p (get_or ys k 0)) (simp values (at k (cases_lt k (length ys)))) i
+dense_plus p c xs ys zs e f each = λ i k. same_residue (residue p (get_or zs k 0))
+    (residue p (get_or xs k 0) ⊕ residue p c ⊗ residue p (get_or ys k 0)) (simp values (at k (cases_lt k (length ys)))) i
   where
     at : (k : ℕ) → (k < length ys) ⊎ (length ys ≤ k) → get_or zs k 0 % p ≡ (get_or xs k 0 + c * get_or ys k 0) % p
     at k (inl l) = ap (λ n. n % p) (each k l) ∙ mod-mod (get_or xs k 0 + c * get_or ys k 0) p
@@ -31,7 +32,8 @@ below_from_entries p zs f positive each = All-from_get_or (λ x. x < p) zs 0 (λ
 pub dense-injective : (p : ℕ) (xs ys : List ℕ) → length xs ≡ length ys → All (λ x. x < p) xs → All (λ x. x < p) ys → dense p xs ≡ dense p ys → xs ≡ ys
 unfolding dense
 dense-injective p xs ys l a b e = same_number_lists xs ys l (λ k u.
-    sym (mod-eq_of_lt (All-get_or (λ x. x < p) xs k 0 u a)) ∙ sym (value-residue p (get_or xs k 0)) ∙ ap (λ v. (v k).value) e ∙ value-residue p (get_or ys k 0)
+    sym (mod-eq_of_lt (All-get_or (λ x. x < p) xs k 0 u a)) ∙ sym (value-residue p (get_or xs k 0)) ∙ ap (λ v. (v k).value) e
+    ∙ value-residue p (get_or ys k 0)
     ∙ mod-eq_of_lt (All-get_or (λ x. x < p) ys k 0 (omega arith) b))
 
 -- a list of length d is a vector of length d
@@ -45,7 +47,8 @@ unfolding dense
 dense_at p xs k = refl
 
 -- two lists of one length are one vector exactly where their numbers have the same residues
-pub dense_from_residues : (p : ℕ) (xs ys : List ℕ) → length xs ≡ length ys → ((k : ℕ) → k < length xs → get_or xs k 0 % p ≡ get_or ys k 0 % p) → dense p xs ≡ dense p ys
+pub dense_from_residues : (p : ℕ) (xs ys : List ℕ) → length xs ≡ length ys → ((k : ℕ) → k < length xs → get_or xs k 0 % p ≡ get_or ys k 0 % p)
+    → dense p xs ≡ dense p ys
 unfolding dense
 dense_from_residues p xs ys l each = λ i k. same_from_mod p (get_or xs k 0) (get_or ys k 0) (at k (cases_lt k (length xs))) i
   where

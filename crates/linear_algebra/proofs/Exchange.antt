@@ -16,9 +16,11 @@ put t [] c = cons t c
 put t (r ∷ before) c = cons (c 0) (put t before (tail c))
 
 -- the row has the coefficient t in the combination
-pub combination-put : {p : ℕ} (t : Residue p) (before after : List (Vector p)) (r c : Vector p) → combination (put t before c) (before ++ r ∷ after) ≡ combination c (before ++ after) ⊞ (t ⊡ r)
+pub combination-put : {p : ℕ} (t : Residue p) (before after : List (Vector p)) (r c : Vector p)
+    → combination (put t before c) (before ++ r ∷ after) ≡ combination c (before ++ after) ⊞ (t ⊡ r)
 combination-put t [] after r c = plus_comm (t ⊡ r) (combination c after)
-combination-put t (b ∷ before) after r c = rw (combination-put t before after r (tail c)) (sym (plus_assoc (c 0 ⊡ b) (combination (tail c) (before ++ after)) (t ⊡ r)))
+combination-put t (b ∷ before) after r c = rw (combination-put t before after r (tail c))
+    (sym (plus_assoc (c 0 ⊡ b) (combination (tail c) (before ++ after)) (t ⊡ r)))
 
 -- where the coefficient j of c stands in `put t before c`
 place : {p : ℕ} → List (Vector p) → ℕ → ℕ
@@ -51,10 +53,17 @@ added f r [] = []
 added f r (s ∷ rows) = (s ⊞ (f s ⊡ r)) ∷ added f r rows
 
 -- adds the total to the coefficient of r
-combination-added : {p : ℕ} (f : Vector p → Residue p) (c r : Vector p) (rows : List (Vector p)) → combination c (added f r rows) ≡ combination c rows ⊞ (total f c rows ⊡ r)
+combination-added : {p : ℕ} (f : Vector p → Residue p) (c r : Vector p) (rows : List (Vector p))
+    → combination c (added f r rows) ≡ combination c rows ⊞ (total f c rows ⊡ r)
 unfolding total added
 combination-added f c r [] = sym (ap (λ v. zeros ⊞ v) (zero-scale r) ∙ plus-zeros zeros)
-combination-added f c r (s ∷ rows) = rw (combination-added f (tail c) r rows, scale-plus (c 0) s (f s ⊡ r), ← (scale-scale (c 0) (f s) r), plus-scale (c 0 ⊗ f s) (total f (tail c) rows) r) (plus_middle (c 0 ⊡ s) (c 0 ⊗ f s ⊡ r) (combination (tail c) rows) (total f (tail c) rows ⊡ r))
+combination-added f c r (s ∷ rows) = rw (
+  combination-added f (tail c) r rows,
+  scale-plus (c 0) s (f s ⊡ r),
+  ← (scale-scale (c 0) (f s) r),
+  plus-scale
+      (c 0 ⊗ f s) (total f (tail c) rows) r,
+) (plus_middle (c 0 ⊡ s) (c 0 ⊗ f s ⊡ r) (combination (tail c) rows) (total f (tail c) rows ⊡ r))
 
 -- leaves the number of rows
 length-added : {p : ℕ} (f : Vector p → Residue p) (r : Vector p) (rows : List (Vector p)) → length (added f r rows) ≡ length rows
@@ -85,19 +94,28 @@ clearing : {p : ℕ} → ℕ → Residue p → Vector p → Residue p
 clearing k b v = opposite (v k) ⊗ b
 
 -- leaves 0 at k
-cleared : {p : ℕ} → 0 < p → (k : ℕ) (r : Vector p) (b : Residue p) → r k ⊗ b ≡ residue p 1 → (v : Vector p) → v k ⊕ (clearing k b v ⊗ r k) ≡ residue p 0
+cleared : {p : ℕ} → 0 < p → (k : ℕ) (r : Vector p) (b : Residue p) → r k ⊗ b ≡ residue p 1 → (v : Vector p)
+    → v k ⊕ (clearing k b v ⊗ r k) ≡ residue p 0
 unfolding clearing
 cleared {p} positive k r b e v =
-    rw (ResidueLaws.mul_assoc (opposite (v k)) b (r k), ResidueLaws.mul_comm b (r k), e, ResidueLaws.mul_comm (opposite (v k)) (residue p 1), ResidueLaws.one-mul (opposite (v k))) (ResidueLaws.add-opposite positive (v k))
+    rw (
+      ResidueLaws.mul_assoc (opposite (v k)) b (r k),
+      ResidueLaws.mul_comm b (r k),
+      e,
+      ResidueLaws.mul_comm (opposite (v k)) (residue p 1),
+      ResidueLaws.one-mul (opposite (v k)),
+    ) (ResidueLaws.add-opposite positive (v k))
 
 -- rows of length k + 1 that are cleared at k have length k
-ends-added : {p : ℕ} → 0 < p → (k : ℕ) (r : Vector p) (b : Residue p) → r k ⊗ b ≡ residue p 1 → EndsBefore (suc k) r → (rows : List (Vector p)) → Each (EndsBefore (suc k)) rows → Each (EndsBefore k) (added (clearing k b) r rows)
+ends-added : {p : ℕ} → 0 < p → (k : ℕ) (r : Vector p) (b : Residue p) → r k ⊗ b ≡ residue p 1 → EndsBefore (suc k) r → (rows : List (Vector p))
+    → Each (EndsBefore (suc k)) rows → Each (EndsBefore k) (added (clearing k b) r rows)
 unfolding added
 ends-added positive k r b e endr [] none = none
 ends-added {p} positive k r b e endr (v ∷ rows) (more endv ends) = more ends_now (ends-added positive k r b e endr rows ends)
   where
     beyond : (i : ℕ) → suc k ≤ i → v i ⊕ (clearing k b v ⊗ r i) ≡ residue p 0
-    beyond i l = rw (endv i l, endr i l, ResidueLaws.mul_comm (clearing k b v) (residue p 0), ResidueLaws.zero-mul (clearing k b v)) (ResidueLaws.add-zero (residue p 0))
+    beyond i l = rw (endv i l, endr i l, ResidueLaws.mul_comm (clearing k b v) (residue p 0), ResidueLaws.zero-mul (clearing k b v))
+        (ResidueLaws.add-zero (residue p 0))
 
     ends_now : EndsBefore k (v ⊞ (clearing k b v ⊡ r))
     ends_now i l = elim (ℕ_discrete i k) [ yes same ↦ rw same (cleared positive k r b e v) | no other ↦ beyond i (omega arith) ]
@@ -133,7 +151,8 @@ length-one_more [] ys y = refl
 length-one_more (x ∷ xs) ys y = ap suc (length-one_more xs ys y)
 
 -- a dependence of the rows to which r was added is one of the rows with r
-dependent_with : {p : ℕ} (f : Vector p → Residue p) (before after : List (Vector p)) (r : Vector p) → Dependent (added f r (before ++ after)) → Dependent (before ++ r ∷ after)
+dependent_with : {p : ℕ} (f : Vector p → Residue p) (before after : List (Vector p)) (r : Vector p) → Dependent (added f r (before ++ after))
+    → Dependent (before ++ r ∷ after)
 dependent_with {p} f before after r (c, j, l, nonzero, zero_sum) =
     let t = total f c (before ++ after) in
     let far : place before j < length (before ++ r ∷ after) =
@@ -147,7 +166,14 @@ dependent_with {p} f before after r (c, j, l, nonzero, zero_sum) =
 
 -- more vectors of length k than k are dependent
 pub more_than_places : {p : ℕ} → IsPrime p → (k : ℕ) (rows : List (Vector p)) → Each (EndsBefore k) rows → k < length rows → Dependent rows
-more_than_places {p} prime zero rows ends l = ((λ j. residue p 1), 0, l, ResidueLaws.one≢zero prime, combination_of_zeros (λ j. residue p 1) rows ends)
+more_than_places {p} prime zero rows ends l = (
+  (λ j. residue p 1),
+  0,
+  l,
+  ResidueLaws.one≢zero prime,
+  combination_of_zeros (λ j. residue p 1) rows
+      ends,
+)
 more_than_places {p} prime (suc k) rows ends l = step (pivot prime k rows) ends l (more_than_places prime k)
   where
     step : {rows : List (Vector p)} → Pivot k rows → Each (EndsBefore (suc k)) rows → suc k < length rows
@@ -161,7 +187,14 @@ more_than_places {p} prime (suc k) rows ends l = step (pivot prime k rows) ends 
         (omega (arith, length-added (clearing k b) r (before ++ after), length-one_more before after r)))
 
 -- more combinations of the rows of a basis than rows are dependent
-pub more_than_basis : {p : ℕ} → IsPrime p → (basis ds : List (Vector p)) → Each (EndsBefore (length basis)) ds → length basis < length ds → Dependent (map (λ d. combination d basis) ds)
+pub more_than_basis : {p : ℕ} → IsPrime p → (basis ds : List (Vector p)) → Each (EndsBefore (length basis)) ds → length basis < length ds
+    → Dependent (map (λ d. combination d basis) ds)
 more_than_basis {p} prime basis ds ends l =
-    let (c, j, below, nonzero, zero_sum) = more_than_places prime (length basis) ds ends l in
-    (c, j, subst (λ n. j < n) (sym (length-map ds (λ d. combination d basis))) below, nonzero, combination-combinations c ds basis ∙ rw zero_sum (combination-zeros basis))
+    let (c, j, below, nonzero, zero_sum) = more_than_places prime (length basis) ds ends l in (
+      c,
+      j,
+      subst (λ n. j < n) (sym (length-map ds (λ d. combination d basis))) below,
+      nonzero,
+      combination-combinations c ds basis
+          ∙ rw zero_sum (combination-zeros basis),
+    )

@@ -44,21 +44,24 @@ length-cleared k s [] = refl
 length-cleared k s (v ∷ basis) = ap suc (length-cleared k s basis)
 
 -- row j after clearing
-row-cleared : {p : ℕ} (k : ℕ) (s : Vector p) (basis : List (Vector p)) (j : ℕ) → j < length basis → row (cleared k s basis) j ≡ row basis j ⊞ (opposite (row basis j k) ⊡ s)
+row-cleared : {p : ℕ} (k : ℕ) (s : Vector p) (basis : List (Vector p)) (j : ℕ) → j < length basis
+    → row (cleared k s basis) j ≡ row basis j ⊞ (opposite (row basis j k) ⊡ s)
 unfolding cleared
 row-cleared k s [] j l = absurd (omega arith)
 row-cleared k s (v ∷ basis) zero l = refl
 row-cleared k s (v ∷ basis) (suc j) l = row-cleared k s basis j (omega arith)
 
 -- and the number of logs
-length-cleared_logs : {p : ℕ} (k : ℕ) (t : Vector p) (basis logs : List (Vector p)) → length logs ≡ length basis → length (cleared_logs k t basis logs) ≡ length basis
+length-cleared_logs : {p : ℕ} (k : ℕ) (t : Vector p) (basis logs : List (Vector p)) → length logs ≡ length basis
+    → length (cleared_logs k t basis logs) ≡ length basis
 unfolding cleared_logs
 length-cleared_logs k t [] logs e = refl
 length-cleared_logs k t (v ∷ basis) [] e = absurd (omega arith)
 length-cleared_logs k t (v ∷ basis) (l ∷ logs) e = ap suc (length-cleared_logs k t basis logs (omega arith))
 
 -- log j after clearing
-row-cleared_logs : {p : ℕ} (k : ℕ) (t : Vector p) (basis logs : List (Vector p)) → length logs ≡ length basis → (j : ℕ) → j < length basis → row (cleared_logs k t basis logs) j ≡ row logs j ⊞ (opposite (row basis j k) ⊡ t)
+row-cleared_logs : {p : ℕ} (k : ℕ) (t : Vector p) (basis logs : List (Vector p)) → length logs ≡ length basis → (j : ℕ) → j < length basis
+    → row (cleared_logs k t basis logs) j ≡ row logs j ⊞ (opposite (row basis j k) ⊡ t)
 unfolding cleared_logs
 row-cleared_logs k t [] logs e j u = absurd (omega arith)
 row-cleared_logs k t (v ∷ basis) [] e j u = absurd (omega arith)
@@ -101,11 +104,13 @@ module _ {p : ℕ} (prime : IsPrime p) (d : ℕ) (rows : List (Vector p)) (ends 
 
       basis_ends : EndsBefore d (combination (λ j. row rows n (e.lead j)) e.basis)
       basis_ends = EndsBefore-InSpan d (take n rows) (combination (λ j. row rows n (e.lead j)) e.basis)
-          (Each-rows (EndsBefore d) (take n rows) (λ j u. let w : j < n = omega (arith, u, length-take-le n rows (omega arith)) in subst (EndsBefore d) (sym (row-take n rows j w)) (row_ends j (omega arith))))
+          (Each-rows (EndsBefore d) (take n rows) (λ j u. let w : j < n = omega (arith, u, length-take-le n rows (omega arith)) in subst
+          (EndsBefore d) (sym (row-take n rows j w)) (row_ends j (omega arith))))
           (InSpan-combination (take n rows) e.basis (λ j. row rows n (e.lead j)) e.done.top.inside)
 
       short : EndsBefore d y
-      short = EndsBefore-minus (omega (arith, prime.above_one)) d (row rows n) (combination (λ j. row rows n (e.lead j)) e.basis) (row_ends n l) basis_ends
+      short = EndsBefore-minus (omega (arith, prime.above_one)) d (row rows n) (combination (λ j. row rows n (e.lead j)) e.basis) (row_ends n l)
+          basis_ends
 
       by_inverse : (k : ℕ) → IsGreatestPlace y k → (y k ≡ residue p 0) ⊎ ((b : Residue p) × (y k ⊗ b ≡ residue p 1)) → Eliminated rows (n + 1)
       by_inverse k g (inl z) = absurd (g.at z)
@@ -122,18 +127,27 @@ module _ {p : ℕ} (prime : IsPrime p) (d : ℕ) (rows : List (Vector p)) (ends 
             logs = newlogs;
             lead = lead;
             kept = e.kept ++ n ∷ [];
-            done = eliminated_kept prime rows n e.basis e.logs e.lead e.kept e.done l k b (ResidueLaws.mul_comm b (y k) ∙ one) g.beyond s t refl refl new newlogs lead
+            done = eliminated_kept prime rows n e.basis e.logs e.lead e.kept e.done l k b (ResidueLaws.mul_comm b (y k) ∙ one) g.beyond s t refl refl
+                new newlogs lead
                 (omega (arith, length-append (cleared k s e.basis) (s ∷ []), sized))
                 (λ j u. row-append (cleared k s e.basis) (s ∷ []) j (omega (arith, sized)) ∙ row-cleared k s e.basis j u)
                 (ap (row new) (sym sized) ∙ row_last (cleared k s e.basis) s)
                 (omega (arith, length-append (cleared_logs k t e.basis e.logs) (t ∷ []), logs_sized))
-                (λ j u. row-append (cleared_logs k t e.basis e.logs) (t ∷ []) j (omega (arith, logs_sized)) ∙ row-cleared_logs k t e.basis e.logs e.done.logged j u)
+                (λ j u. row-append (cleared_logs k t e.basis e.logs) (t ∷ []) j (omega (arith, logs_sized))
+                ∙ row-cleared_logs k t e.basis e.logs e.done.logged j u)
                 (ap (row newlogs) (sym logs_sized) ∙ row_last (cleared_logs k t e.basis e.logs) t)
                 (leads_more-before e.lead (length e.basis) k) (leads_more-last e.lead (length e.basis) k);
           }
 
       by_support : (y ≡ zeros) ⊎ ((k : ℕ) × (k < d) × IsGreatestPlace y k) → Eliminated rows (n + 1)
-      by_support (inl z) = record { basis = e.basis; logs = e.logs; lead = e.lead; kept = e.kept; done = eliminated_spanned prime rows n e.basis e.logs e.lead e.kept e.done l z }
+      by_support (inl z) = record {
+        basis = e.basis;
+        logs = e.logs;
+        lead = e.lead;
+        kept = e.kept;
+        done =
+            eliminated_spanned prime rows n e.basis e.logs e.lead e.kept e.done l z;
+      }
       by_support (inr (k, u, g)) = by_inverse k g (ResidueLaws.zero_or_inverse prime (y k))
 
   -- so can the first n rows
@@ -156,28 +170,43 @@ module _ {p : ℕ} (prime : IsPrime p) (d : ℕ) (rows : List (Vector p)) (ends 
     eliminated.basis,
     record {
       independent = independent_from_top eliminated.basis eliminated.lead top.reduced;
-      same = record { forth = λ v h. InSpan-trans eliminated.basis rows v top.spans h; back = λ v h. InSpan-trans rows eliminated.basis v top.inside h };
+      same = record {
+        forth = λ v h. InSpan-trans eliminated.basis rows v top.spans h;
+        back =
+            λ v h. InSpan-trans rows eliminated.basis v top.inside h;
+      };
     },
   )
 
   -- each vector has a reduction
   pub reduction_exists : (x : Vector p) → (y : Vector p) × IsReduction rows x y
-  reduction_exists x = (remainder eliminated.basis eliminated.lead x, remainder_is_reduction (omega (arith, prime.above_one)) rows eliminated.basis eliminated.lead top x)
+  reduction_exists x = (
+    remainder eliminated.basis eliminated.lead x,
+    remainder_is_reduction (omega (arith, prime.above_one)) rows eliminated.basis
+        eliminated.lead top x,
+  )
 
   -- and coefficients over kept rows that give the difference
   pub trace_exists : (x y : Vector p) → IsReduction rows x y → (c : Vector p) × AreKeptCoefficients rows x y c
   trace_exists x y h =
       let c = combination (λ j. x (eliminated.lead j)) eliminated.logs in
-      let same : remainder eliminated.basis eliminated.lead x ≡ y = reduction_once (omega (arith, prime.above_one)) d rows ends x (remainder eliminated.basis eliminated.lead x) y (remainder_is_reduction (omega (arith, prime.above_one)) rows eliminated.basis eliminated.lead top x) h in
-      (c, subst (λ z. AreKeptCoefficients rows x z c) same (trace_of_remainder prime rows (length rows) eliminated.basis eliminated.logs eliminated.lead eliminated.kept eliminated.done x))
+      let same : remainder eliminated.basis eliminated.lead x ≡ y = reduction_once (omega (arith, prime.above_one)) d rows ends x
+      (remainder eliminated.basis eliminated.lead x) y (remainder_is_reduction (omega (arith, prime.above_one)) rows eliminated.basis
+      eliminated.lead top x) h in (
+        c,
+        subst (λ z. AreKeptCoefficients rows x z c) same (trace_of_remainder prime rows (length rows) eliminated.basis eliminated.logs
+            eliminated.lead eliminated.kept eliminated.done x),
+      )
 
   -- a vector of length d has coordinates
   pub coordinates_exist : (x : Vector p) → EndsBefore d x → (c : Vector p) × IsCoordinates d rows x c
   coordinates_exist x short =
       let y = remainder eliminated.basis eliminated.lead x in
       let h : IsReduction rows x y = remainder_is_reduction (omega (arith, prime.above_one)) rows eliminated.basis eliminated.lead top x in
-      let y_ends : EndsBefore d y = EndsBefore-minus (omega (arith, prime.above_one)) d x (combination (λ j. x (eliminated.lead j)) eliminated.basis) short
-      (EndsBefore-InSpan d rows (combination (λ j. x (eliminated.lead j)) eliminated.basis) ends (InSpan-combination rows eliminated.basis (λ j. x (eliminated.lead j)) top.inside)) in
+      let y_ends : EndsBefore d y = EndsBefore-minus (omega (arith, prime.above_one)) d x (combination (λ j. x (eliminated.lead j)) eliminated.basis)
+      short
+      (EndsBefore-InSpan d rows (combination (λ j. x (eliminated.lead j)) eliminated.basis) ends
+      (InSpan-combination rows eliminated.basis (λ j. x (eliminated.lead j)) top.inside)) in
       (entries_at (free_places d rows) y, coordinates_of_reduction (omega (arith, prime.above_one)) d rows ends x y y_ends h)
 
   -- a vector of length d is in the span or not
@@ -195,7 +224,8 @@ module _ {p : ℕ} (prime : IsPrime p) (d : ℕ) (rows : List (Vector p)) (ends 
 
       y_ends : EndsBefore d y
       y_ends = EndsBefore-minus positive d v (combination (λ j. v (eliminated.lead j)) eliminated.basis) short
-          (EndsBefore-InSpan d rows (combination (λ j. v (eliminated.lead j)) eliminated.basis) ends (InSpan-combination rows eliminated.basis (λ j. v (eliminated.lead j)) top.inside))
+          (EndsBefore-InSpan d rows (combination (λ j. v (eliminated.lead j)) eliminated.basis) ends
+          (InSpan-combination rows eliminated.basis (λ j. v (eliminated.lead j)) top.inside))
 
       by_support : (y ≡ zeros) ⊎ ((k : ℕ) × (k < d) × IsGreatestPlace y k) → InSpan rows v ⊎ (InSpan rows v → ⊥)
       by_support (inl z) = inl (InSpan_from_Congruent positive rows v (subst (Congruent rows v) z h.congruent))
@@ -203,8 +233,11 @@ module _ {p : ℕ} (prime : IsPrime p) (d : ℕ) (rows : List (Vector p)) (ends 
           (reduction_once positive d rows ends v y zeros h (record { congruent = Congruent-zeros positive rows v held; free = λ i b. refl }))))
 
 -- a row is kept or not
-pub kept_or_not : {p : ℕ} → IsPrime p → (d : ℕ) (rows : List (Vector p)) → Each (EndsBefore d) rows → (i : ℕ) → i < length rows → IsKept rows i ⊎ InSpan (take i rows) (row rows i)
-kept_or_not {p} prime d rows ends i l = by_span (in_span_or_not prime d (take i rows) (Each-rows (EndsBefore d) (take i rows) (λ j u. at j (omega (arith, u, length-take-le i rows (omega arith))))) (row rows i) (row_ends prime d rows ends i l))
+pub kept_or_not : {p : ℕ} → IsPrime p → (d : ℕ) (rows : List (Vector p)) → Each (EndsBefore d) rows → (i : ℕ) → i < length rows
+    → IsKept rows i ⊎ InSpan (take i rows) (row rows i)
+kept_or_not {p} prime d rows ends i l = by_span (in_span_or_not prime d (take i rows)
+    (Each-rows (EndsBefore d) (take i rows) (λ j u. at j (omega (arith, u, length-take-le i rows (omega arith))))) (row rows i)
+    (row_ends prime d rows ends i l))
   where
     at : (j : ℕ) → j < i → EndsBefore d (row (take i rows) j)
     at j u = subst (EndsBefore d) (sym (row-take i rows j u)) (row_ends prime d rows ends j (omega arith))

@@ -25,7 +25,8 @@ pub free_before-all : {p : ℕ} (d : ℕ) (rows : List (Vector p)) → free_befo
 unfolding free_before free_places
 free_before-all d rows = refl
 
-one_more : {p : ℕ} (d : ℕ) (rows : List (Vector p)) (n : ℕ) (t : Bool) → is_bound d rows n ≡ t → free_before d rows (n + 1) ≡ free_before d rows n ++ cond (not t) (n ∷ []) []
+one_more : {p : ℕ} (d : ℕ) (rows : List (Vector p)) (n : ℕ) (t : Bool) → is_bound d rows n ≡ t
+    → free_before d rows (n + 1) ≡ free_before d rows n ++ cond (not t) (n ∷ []) []
 unfolding free_before
 one_more d rows n t e =
     ap (filter (λ k. not (is_bound d rows k))) (sym (map-id (range_with_len 0 (n + 1))))
@@ -34,11 +35,13 @@ one_more d rows n t e =
     ∙ ap (λ b. filter (λ k. not (is_bound d rows k)) (range_with_len 0 n) ++ cond (not b) (n ∷ []) []) e
 
 -- a pivot is not among them
-pub free_before-pivot : {p : ℕ} → 0 < p → (d : ℕ) (rows : List (Vector p)) (n : ℕ) → IsPivot rows n → free_before d rows (n + 1) ≡ free_before d rows n
+pub free_before-pivot : {p : ℕ} → 0 < p → (d : ℕ) (rows : List (Vector p)) (n : ℕ) → IsPivot rows n
+    → free_before d rows (n + 1) ≡ free_before d rows n
 free_before-pivot positive d rows n h = one_more d rows n true (IsPivot-is_bound positive d rows n h) ∙ append-nil (free_before d rows n)
 
 -- and every other place is
-pub free_before-free : {p : ℕ} (d : ℕ) (rows : List (Vector p)) → Each (EndsBefore d) rows → (n : ℕ) → (IsPivot rows n → ⊥) → free_before d rows (n + 1) ≡ free_before d rows n ++ n ∷ []
+pub free_before-free : {p : ℕ} (d : ℕ) (rows : List (Vector p)) → Each (EndsBefore d) rows → (n : ℕ) → (IsPivot rows n → ⊥)
+    → free_before d rows (n + 1) ≡ free_before d rows n ++ n ∷ []
 free_before-free d rows ends n h = by_test (is_bound d rows n) refl
   where
     by_test : (t : Bool) → is_bound d rows n ≡ t → free_before d rows (n + 1) ≡ free_before d rows n ++ n ∷ []
@@ -58,7 +61,11 @@ free_before_below d rows n =
 pub free_before_few : {p : ℕ} (d : ℕ) (rows : List (Vector p)) (n : ℕ) → length (free_before d rows n) ≤ n
 unfolding free_before
 free_before_few d rows n =
-    omega (arith, length-filter_both (λ k. not (is_bound d rows k)) (λ k. not (not (is_bound d rows k))) (λ k. refl) (range_with_len 0 n), length-range_with_len 0 n)
+    omega (
+      arith,
+      length-filter_both (λ k. not (is_bound d rows k)) (λ k. not (not (is_bound d rows k))) (λ k. refl) (range_with_len 0 n),
+      length-range_with_len 0 n,
+    )
 
 -- all are below the width
 pub free_places_below : {p : ℕ} (d : ℕ) (rows : List (Vector p)) → All (λ k. k < d) (free_places d rows)

@@ -18,8 +18,10 @@ use Rattle.linear_algebra.proofs.Elimination.{combination-unit}
 use Rattle.linear_algebra.proofs.Existence.{trace_exists}
 
 -- a combination of the rows with these numbers, as one of all rows
-pub combination-rows_at : {p : ℕ} (rows : List (Vector p)) (ks : List ℕ) (c : Vector p) → ((j : ℕ) → j < length ks → get_or ks j 0 < length rows) → combination c (rows_at rows ks) ≡ combination (at_places ks c) rows
-combination-rows_at rows ks c below = ap (combination c) (same_rows (rows_at rows ks) (map (λ d. combination d rows) (map unit ks)) sized each) ∙ combination-combinations c (map unit ks) rows
+pub combination-rows_at : {p : ℕ} (rows : List (Vector p)) (ks : List ℕ) (c : Vector p) → ((j : ℕ) → j < length ks → get_or ks j 0 < length rows)
+    → combination c (rows_at rows ks) ≡ combination (at_places ks c) rows
+combination-rows_at rows ks c below = ap (combination c) (same_rows (rows_at rows ks) (map (λ d. combination d rows) (map unit ks)) sized each)
+    ∙ combination-combinations c (map unit ks) rows
   where
     sized : length (rows_at rows ks) ≡ length (map (λ d. combination d rows) (map unit ks))
     sized = length-map ks (row rows) ∙ sym (length-map (map unit ks) (λ d. combination d rows) ∙ length-map ks unit)
@@ -48,7 +50,8 @@ module _ {p : ℕ} (prime : IsPrime p) (rows : List (Vector p)) (ks : List ℕ) 
       over c = record { elsewhere = λ i n. at_places_elsewhere ks c i (λ j l e. n (subst (IsKept rows) e (h.only j l))) }
 
       zero_at : (c : Vector p) → combination c (rows_at rows ks) ≡ zeros → (j : ℕ) → j < length ks → c j ≡ residue p 0
-      zero_at c z j l = sym (at_places_at ks c h.rising j l) ∙ ap (λ v. v (get_or ks j 0)) (over_kept_zeros prime rows (at_places ks c) (over c) (sym (combination-rows_at rows ks c kept_below) ∙ z))
+      zero_at c z j l = sym (at_places_at ks c h.rising j l) ∙ ap (λ v. v (get_or ks j 0))
+          (over_kept_zeros prime rows (at_places ks c) (over c) (sym (combination-rows_at rows ks c kept_below) ∙ z))
 
   -- and span what the rows span
   pub InSpan-kept : (d : ℕ) → Each (EndsBefore d) rows → (v : Vector p) → InSpan rows v → InSpan (rows_at rows ks) v

@@ -28,22 +28,27 @@ pub IsOverKept-scale : {p : ℕ} (rows : List (Vector p)) (a : Residue p) (c : V
 IsOverKept-scale {p} rows a c h = record { elsewhere = λ i n. rw (h.elsewhere i n, ResidueLaws.mul_comm a (residue p 0)) (ResidueLaws.zero-mul a) }
 
 -- differences
-pub IsOverKept-minus : {p : ℕ} → 0 < p → (rows : List (Vector p)) (c d : Vector p) → IsOverKept rows c → IsOverKept rows d → IsOverKept rows (minus c d)
+pub IsOverKept-minus : {p : ℕ} → 0 < p → (rows : List (Vector p)) (c d : Vector p) → IsOverKept rows c → IsOverKept rows d
+    → IsOverKept rows (minus c d)
 IsOverKept-minus {p} positive rows c d h k = record { elsewhere = λ i n. rw (h.elsewhere i n, k.elsewhere i n) (sub_self positive (residue p 0)) }
 
 -- combinations
-pub IsOverKept-combination : {p : ℕ} (rows : List (Vector p)) (c : Vector p) (logs : List (Vector p)) → Each (IsOverKept rows) logs → IsOverKept rows (combination c logs)
+pub IsOverKept-combination : {p : ℕ} (rows : List (Vector p)) (c : Vector p) (logs : List (Vector p)) → Each (IsOverKept rows) logs
+    → IsOverKept rows (combination c logs)
 IsOverKept-combination rows c [] none = IsOverKept-zeros rows
-IsOverKept-combination rows c (l ∷ logs) (more h hs) = IsOverKept-plus rows (c 0 ⊡ l) (combination (tail c) logs) (IsOverKept-scale rows (c 0) l h) (IsOverKept-combination rows (tail c) logs hs)
+IsOverKept-combination rows c (l ∷ logs) (more h hs) = IsOverKept-plus rows (c 0 ⊡ l) (combination (tail c) logs) (IsOverKept-scale rows (c 0) l h)
+    (IsOverKept-combination rows (tail c) logs hs)
 
 -- only 0 combines kept rows to 0
 pub over_kept_zeros : {p : ℕ} → IsPrime p → (rows : List (Vector p)) (c : Vector p) → IsOverKept rows c → combination c rows ≡ zeros → c ≡ zeros
 over_kept_zeros {p} prime rows c kept z = λ i j. at j (cases_lt j (length rows)) i
   where
-    held : (n : ℕ) → n < length rows → combination c (take n rows) ⊞ (c n ⊡ row rows n) ≡ zeros → (c n ≡ residue p 0) ⊎ ((b : Residue p) × (c n ⊗ b ≡ residue p 1)) → c n ≡ residue p 0
+    held : (n : ℕ) → n < length rows → combination c (take n rows) ⊞ (c n ⊡ row rows n) ≡ zeros
+        → (c n ≡ residue p 0) ⊎ ((b : Residue p) × (c n ⊗ b ≡ residue p 1)) → c n ≡ residue p 0
     held n l e (inl zero_at) = zero_at
     held n l e (inr (b, one)) =
-        let h : InSpan (take n rows) (row rows n) = row_from_others prime (row rows n) (take n rows) (cons (c n) c) b one (plus_comm (c n ⊡ row rows n) (combination c (take n rows)) ∙ e) in
+        let h : InSpan (take n rows) (row rows n) = row_from_others prime (row rows n) (take n rows) (cons (c n) c) b one
+        (plus_comm (c n ⊡ row rows n) (combination c (take n rows)) ∙ e) in
         kept.elsewhere n (λ k. k.apart h)
 
     first : (n : ℕ) → n ≤ length rows → combination c (take n rows) ≡ zeros → (j : ℕ) → j < n → c j ≡ residue p 0
@@ -57,7 +62,8 @@ over_kept_zeros {p} prime rows c kept z = λ i j. at j (cases_lt j (length rows)
         none_here = held n l split (ResidueLaws.zero_or_inverse prime (c n))
 
         less : combination c (take n rows) ≡ zeros
-        less = sym (plus-zeros (combination c (take n rows))) ∙ ap (λ v. combination c (take n rows) ⊞ v) (sym (ap (λ a. a ⊡ row rows n) none_here ∙ zero-scale (row rows n))) ∙ split
+        less = sym (plus-zeros (combination c (take n rows))) ∙ ap (λ v. combination c (take n rows) ⊞ v)
+            (sym (ap (λ a. a ⊡ row rows n) none_here ∙ zero-scale (row rows n))) ∙ split
 
         by_place : Dec (j ≡ n) → ((j : ℕ) → j < n → c j ≡ residue p 0) → c j ≡ residue p 0
         by_place (yes same) smaller = ap c same ∙ none_here
@@ -68,12 +74,14 @@ over_kept_zeros {p} prime rows c kept z = λ i j. at j (cases_lt j (length rows)
     at j (inr l) = kept.elsewhere j (λ k. let w : j < length rows = k.within in absurd (omega arith))
 
 -- coefficients over kept rows are determined by what they combine to
-pub over_kept_once : {p : ℕ} → IsPrime p → (rows : List (Vector p)) (c d : Vector p) → IsOverKept rows c → IsOverKept rows d → combination c rows ≡ combination d rows → c ≡ d
+pub over_kept_once : {p : ℕ} → IsPrime p → (rows : List (Vector p)) (c d : Vector p) → IsOverKept rows c → IsOverKept rows d
+    → combination c rows ≡ combination d rows → c ≡ d
 over_kept_once {p} prime rows c d h k e =
     let positive : 0 < p = omega (arith, prime.above_one) in
     minus_none positive c d (over_kept_zeros prime rows (minus c d) (IsOverKept-minus positive rows c d h k)
     (combination-minus positive c d rows ∙ ap (λ v. minus v (combination d rows)) e ∙ minus_self positive (combination d rows)))
 
 -- the coefficients of a difference over kept rows are unique
-pub trace_once : {p : ℕ} → IsPrime p → (rows : List (Vector p)) (x y c d : Vector p) → AreKeptCoefficients rows x y c → AreKeptCoefficients rows x y d → c ≡ d
+pub trace_once : {p : ℕ} → IsPrime p → (rows : List (Vector p)) (x y c d : Vector p) → AreKeptCoefficients rows x y c → AreKeptCoefficients rows x y d
+    → c ≡ d
 trace_once prime rows x y c d h k = over_kept_once prime rows c d h.over_kept k.over_kept (h.adds_up ∙ sym k.adds_up)

@@ -87,7 +87,11 @@ pub prime_by_trial : (k p : ℕ) → passes_trial k p ≡ true → IsPrime p
 prime_by_trial k p t =
     let (above, rest) = and_parts (nat_lt 1 p) (nat_lt p ((k + 2) * (k + 2)) && none_divides k 2 p) t in
     let (square, tried) = and_parts (nat_lt p ((k + 2) * (k + 2))) (none_divides k 2 p) rest in
-    record { above_one = ltb-true 1 p above; only_trivial = λ d z. trivial (ltb-true 1 p above) (ltb-true p ((k + 2) * (k + 2)) square) tried d (p / d) (split d z) (ℕ_discrete d 1) (ℕ_discrete (p / d) 1) }
+    record {
+      above_one = ltb-true 1 p above;
+      only_trivial = λ d z. trivial (ltb-true 1 p above) (ltb-true p ((k + 2) * (k + 2)) square) tried d
+          (p / d) (split d z) (ℕ_discrete d 1) (ℕ_discrete (p / d) 1);
+    }
   where
     split : (d : ℕ) → p % d ≡ 0 → d * (p / d) ≡ p
     split d z = omega (arith, div-add-mod p d)

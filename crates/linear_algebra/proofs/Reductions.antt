@@ -22,20 +22,24 @@ pub pivot_is_bound : {p : ℕ} → 0 < p → (rows : List (Vector p)) (k : ℕ) 
 pivot_is_bound positive rows k (v, h, g) = (v, Congruent-zeros positive rows v h, g)
 
 -- and the leads of a basis that is reduced from the top
-pub bound_is_lead : {p : ℕ} → 0 < p → (rows basis : List (Vector p)) (lead : ℕ → ℕ) → IsTopBasis rows basis lead → (k : ℕ) → IsBound rows k → (j : ℕ) × (j < length basis) × (lead j ≡ k)
+pub bound_is_lead : {p : ℕ} → 0 < p → (rows basis : List (Vector p)) (lead : ℕ → ℕ) → IsTopBasis rows basis lead → (k : ℕ) → IsBound rows k
+    → (j : ℕ) × (j < length basis) × (lead j ≡ k)
 bound_is_lead positive rows basis lead t k b =
     let (v, h, g) = bound_is_pivot positive rows k b in
     pivot_is_lead basis lead t.reduced k (v, InSpan-trans basis rows v t.spans h, g)
 
 -- and each lead is bound
-pub lead_is_bound : {p : ℕ} → IsPrime p → (rows basis : List (Vector p)) (lead : ℕ → ℕ) → IsTopBasis rows basis lead → (j : ℕ) → j < length basis → IsBound rows (lead j)
+pub lead_is_bound : {p : ℕ} → IsPrime p → (rows basis : List (Vector p)) (lead : ℕ → ℕ) → IsTopBasis rows basis lead → (j : ℕ) → j < length basis
+    → IsBound rows (lead j)
 lead_is_bound prime rows basis lead t j l =
     let (v, h, g) = lead_is_pivot prime basis lead t.reduced j l in
     (v, Congruent-zeros (omega (arith, prime.above_one)) rows v (InSpan-trans rows basis v t.inside h), g)
 
 -- two vectors of one class that are 0 at the bound places are equal
-pub reduction_once : {p : ℕ} → 0 < p → (d : ℕ) (rows : List (Vector p)) → Each (EndsBefore d) rows → (x y z : Vector p) → IsReduction rows x y → IsReduction rows x z → y ≡ z
-reduction_once {p} positive d rows ends x y z h k = minus_none positive y z (by_support (greatest_or_zeros d (minus y z) (EndsBefore-InSpan d rows (minus y z) ends same)))
+pub reduction_once : {p : ℕ} → 0 < p → (d : ℕ) (rows : List (Vector p)) → Each (EndsBefore d) rows → (x y z : Vector p) → IsReduction rows x y
+    → IsReduction rows x z → y ≡ z
+reduction_once {p} positive d rows ends x y z h k = minus_none positive y z
+    (by_support (greatest_or_zeros d (minus y z) (EndsBefore-InSpan d rows (minus y z) ends same)))
   where
     same : Congruent rows y z
     same = Congruent_trans positive rows y x z (Congruent_sym positive rows x y h.congruent) k.congruent
@@ -47,7 +51,8 @@ reduction_once {p} positive d rows ends x y z h k = minus_none positive y z (by_
         absurd (g.at (rw (h.free i bound, k.free i bound) (sub_self positive (residue p 0))))
 
 -- the remainder by a basis that is reduced from the top is that vector
-pub remainder_is_reduction : {p : ℕ} → 0 < p → (rows basis : List (Vector p)) (lead : ℕ → ℕ) → IsTopBasis rows basis lead → (x : Vector p) → IsReduction rows x (remainder basis lead x)
+pub remainder_is_reduction : {p : ℕ} → 0 < p → (rows basis : List (Vector p)) (lead : ℕ → ℕ) → IsTopBasis rows basis lead → (x : Vector p)
+    → IsReduction rows x (remainder basis lead x)
 remainder_is_reduction {p} positive rows basis lead t x = record {
   congruent = Congruent-more rows basis x (remainder basis lead x) t.inside (Congruent_remainder positive basis lead x);
   free = λ k b. at_lead k (bound_is_lead positive rows basis lead t k b);

@@ -107,7 +107,11 @@ add-opposite {p} positive a =
 
 -- a is 0 or has an inverse
 pub zero_or_inverse : {p : ℕ} → IsPrime p → (a : Residue p) → (a ≡ residue p 0) ⊎ ((b : Residue p) × (a ⊗ b ≡ residue p 1))
-zero_or_inverse {p} prime a = elim (ℕ_discrete a.value 0) [ yes e ↦ inl (same_residue a (residue p 0) (simp values (e ∙ sym (zero-mod p)))) | no n ↦ inr (found n) ]
+zero_or_inverse {p} prime a = elim (ℕ_discrete a.value 0) [
+  | yes e ↦ inl (same_residue a (residue p 0) (simp values (e ∙ sym (zero-mod p))))
+  | no n ↦
+      inr (found n)
+]
   where
     found : a.value ≢ 0 → (b : Residue p) × (a ⊗ b ≡ residue p 1)
     found n = let m = has_inverse prime a.value (λ z. n (sym a.reduced ∙ z)) in

@@ -28,11 +28,19 @@ Each-rows P (r ∷ rows) f = more (f 0 (omega arith)) (Each-rows P rows (λ j l.
 
 -- sums stay in the span
 pub InSpan-plus : {p : ℕ} (rows : List (Vector p)) (v w : Vector p) → InSpan rows v → InSpan rows w → InSpan rows (v ⊞ w)
-InSpan-plus rows v w h k = record { coefficients = h.coefficients ⊞ k.coefficients; is_combination = cc (h.is_combination, k.is_combination, combination-plus h.coefficients k.coefficients rows) }
+InSpan-plus rows v w h k = record {
+  coefficients = h.coefficients ⊞ k.coefficients;
+  is_combination =
+      cc (h.is_combination, k.is_combination, combination-plus h.coefficients k.coefficients rows);
+}
 
 -- multiples stay in the span
 pub InSpan-scale : {p : ℕ} (a : Residue p) (rows : List (Vector p)) (v : Vector p) → InSpan rows v → InSpan rows (a ⊡ v)
-InSpan-scale a rows v h = record { coefficients = a ⊡ h.coefficients; is_combination = ap (λ w. a ⊡ w) h.is_combination ∙ sym (combination-scale a h.coefficients rows) }
+InSpan-scale a rows v h = record {
+  coefficients = a ⊡ h.coefficients;
+  is_combination = ap (λ w. a ⊡ w) h.is_combination
+      ∙ sym (combination-scale a h.coefficients rows);
+}
 
 -- 0 is in each span
 pub InSpan-zeros : {p : ℕ} (rows : List (Vector p)) → InSpan rows zeros
@@ -40,11 +48,19 @@ InSpan-zeros rows = record { coefficients = zeros; is_combination = sym (combina
 
 -- a span grows with a row
 pub InSpan-more : {p : ℕ} (r v : Vector p) (rows : List (Vector p)) → InSpan rows v → InSpan (r ∷ rows) v
-InSpan-more {p} r v rows h = record { coefficients = cons (residue p 0) h.coefficients; is_combination = h.is_combination ∙ sym (zeros-plus (combination h.coefficients rows)) ∙ ap (λ w. w ⊞ combination h.coefficients rows) (sym (zero-scale r)) }
+InSpan-more {p} r v rows h = record {
+  coefficients = cons (residue p 0) h.coefficients;
+  is_combination = h.is_combination
+      ∙ sym (zeros-plus (combination h.coefficients rows)) ∙ ap (λ w. w ⊞ combination h.coefficients rows) (sym (zero-scale r));
+}
 
 -- the first row is in the span
 pub InSpan-first : {p : ℕ} (r : Vector p) (rows : List (Vector p)) → InSpan (r ∷ rows) r
-InSpan-first {p} r rows = record { coefficients = cons (residue p 1) zeros; is_combination = sym (rw (combination-zeros rows, one-scale r) (plus-zeros r)) }
+InSpan-first {p} r rows = record {
+  coefficients = cons (residue p 1) zeros;
+  is_combination =
+      sym (rw (combination-zeros rows, one-scale r) (plus-zeros r));
+}
 
 -- each row is in the span, by its number
 pub InSpan-row : {p : ℕ} (rows : List (Vector p)) (j : ℕ) → j < length rows → InSpan rows (row rows j)
@@ -65,7 +81,8 @@ InSpan-map f (x ∷ xs) (suc j) d l = InSpan-more (f x) (f (get_or xs j d)) (map
 -- a combination of vectors of the span is in it
 pub InSpan-combination : {p : ℕ} (basis rows : List (Vector p)) (c : Vector p) → Each (InSpan basis) rows → InSpan basis (combination c rows)
 InSpan-combination basis [] c none = InSpan-zeros basis
-InSpan-combination basis (r ∷ rows) c (more k ks) = InSpan-plus basis (c 0 ⊡ r) (combination (tail c) rows) (InSpan-scale (c 0) basis r k) (InSpan-combination basis rows (tail c) ks)
+InSpan-combination basis (r ∷ rows) c (more k ks) = InSpan-plus basis (c 0 ⊡ r) (combination (tail c) rows) (InSpan-scale (c 0) basis r k)
+    (InSpan-combination basis rows (tail c) ks)
 
 -- spans are transitive
 pub InSpan-trans : {p : ℕ} (basis rows : List (Vector p)) (v : Vector p) → Each (InSpan basis) rows → InSpan rows v → InSpan basis v
@@ -73,7 +90,8 @@ InSpan-trans basis rows v each h = subst (InSpan basis) (sym h.is_combination) (
 
 -- a span grows with rows after it
 pub InSpan-append_left : {p : ℕ} (xs ys : List (Vector p)) (v : Vector p) → InSpan xs v → InSpan (xs ++ ys) v
-InSpan-append_left xs ys v h = InSpan-trans (xs ++ ys) xs v (Each-rows (InSpan (xs ++ ys)) xs (λ j l. subst (InSpan (xs ++ ys)) (row-append xs ys j l) (InSpan-row (xs ++ ys) j (omega (arith, length-append xs ys))))) h
+InSpan-append_left xs ys v h = InSpan-trans (xs ++ ys) xs v (Each-rows (InSpan (xs ++ ys)) xs
+    (λ j l. subst (InSpan (xs ++ ys)) (row-append xs ys j l) (InSpan-row (xs ++ ys) j (omega (arith, length-append xs ys))))) h
 
 -- and before it
 pub InSpan-append_right : {p : ℕ} (xs ys : List (Vector p)) (v : Vector p) → InSpan ys v → InSpan (xs ++ ys) v

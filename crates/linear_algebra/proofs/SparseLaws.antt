@@ -31,8 +31,10 @@ unfolding sparse
 sparse-one p t = plus-zeros (single p t.0 t.1)
 
 -- the sum of the first i + 1 terms
-pub sparse_more : (p : ℕ) (xs : List (ℕ × ℕ)) (i : ℕ) → i < length xs → sparse p (take (i + 1) xs) ≡ sparse p (take i xs) ⊞ single p (get_or xs i (0, 0)).0 (get_or xs i (0, 0)).1
-sparse_more p xs i l = ap (sparse p) (take_more xs i (0, 0) l) ∙ sparse-append p (take i xs) (get_or xs i (0, 0) ∷ []) ∙ ap (λ v. sparse p (take i xs) ⊞ v) (sparse-one p (get_or xs i (0, 0)))
+pub sparse_more : (p : ℕ) (xs : List (ℕ × ℕ)) (i : ℕ) → i < length xs → sparse p (take (i + 1) xs) ≡ sparse p (take i xs)
+    ⊞ single p (get_or xs i (0, 0)).0 (get_or xs i (0, 0)).1
+sparse_more p xs i l = ap (sparse p) (take_more xs i (0, 0) l) ∙ sparse-append p (take i xs) (get_or xs i (0, 0) ∷ [])
+    ∙ ap (λ v. sparse p (take i xs) ⊞ v) (sparse-one p (get_or xs i (0, 0)))
 
 -- two terms at one place add their numbers
 pub single-add : (p k a b : ℕ) → single p k a ⊞ single p k b ≡ single p k ((a + b) % p)
@@ -107,7 +109,11 @@ sparse-cons p t ts = refl
 pub sparse_elsewhere : (p : ℕ) (ts : List (ℕ × ℕ)) (k : ℕ) → ((j : ℕ) → j < length ts → (get_or ts j (0, 0)).0 ≢ k) → sparse p ts k ≡ residue p 0
 unfolding sparse
 sparse_elsewhere p [] k away = refl
-sparse_elsewhere p (t ∷ ts) k away = rw (single_elsewhere p t.0 t.1 k (away 0 (omega arith)), sparse_elsewhere p ts k (λ j l. away (suc j) (omega arith))) (add-zero (residue p 0))
+sparse_elsewhere p (t ∷ ts) k away = rw (
+  single_elsewhere p t.0 t.1 k (away 0 (omega arith)),
+  sparse_elsewhere p ts k
+      (λ j l. away (suc j) (omega arith)),
+) (add-zero (residue p 0))
 
 -- a sum that is not 0 at a place has a term there
 pub has_term : (p : ℕ) (ts : List (ℕ × ℕ)) (q : ℕ) → sparse p ts q ≢ residue p 0 → (i : ℕ) × (i < length ts) × ((get_or ts i (0, 0)).0 ≡ q)
@@ -139,11 +145,16 @@ before_last p k ts combo some beyond q apart here =
 
 -- terms with places below d are a vector of length d
 pub EndsBefore-sparse : (p d : ℕ) (ts : List (ℕ × ℕ)) → All (λ t. t.0 < d) ts → EndsBefore d (sparse p ts)
-EndsBefore-sparse p d ts below k l = sparse_elsewhere p ts k (λ j u e. let w : (get_or ts j (0, 0)).0 < d = All-get_or (λ t. t.0 < d) ts j (0, 0) u below in omega arith)
+EndsBefore-sparse p d ts below k l = sparse_elsewhere p ts k (λ j u e.
+    let w : (get_or ts j (0, 0)).0 < d = All-get_or (λ t. t.0 < d) ts j (0, 0) u below in omega arith)
 
 -- without its first term a list still rises and has no zero
 IsCombo-tail : (t : ℕ × ℕ) (ts : List (ℕ × ℕ)) → IsCombo (t ∷ ts) → IsCombo ts
-IsCombo-tail t ts c = record { rising = λ i j l u. c.rising (suc i) (suc j) (omega arith) (omega arith); nonzero = All-tail (λ t. 0 < t.1) t ts c.nonzero }
+IsCombo-tail t ts c = record {
+  rising = λ i j l u. c.rising (suc i) (suc j) (omega arith) (omega arith);
+  nonzero =
+      All-tail (λ t. 0 < t.1) t ts c.nonzero;
+}
 
 -- the first place is below the others
 first_below : (t : ℕ × ℕ) (ts : List (ℕ × ℕ)) → IsCombo (t ∷ ts) → (j : ℕ) → j < length ts → t.0 < (get_or ts j (0, 0)).0
@@ -152,7 +163,11 @@ first_below t ts c j l = c.rising 0 (suc j) (omega arith) (omega arith)
 -- at its first place, and before it
 sparse_first : (p : ℕ) (t : ℕ × ℕ) (ts : List (ℕ × ℕ)) → IsCombo (t ∷ ts) → sparse p (t ∷ ts) t.0 ≡ residue p t.1
 unfolding sparse
-sparse_first p t ts c = rw (single_at p t.0 t.1, sparse_elsewhere p ts t.0 (λ j l e. let w : t.0 < (get_or ts j (0, 0)).0 = first_below t ts c j l in omega arith)) (add-zero (residue p t.1))
+sparse_first p t ts c = rw (
+  single_at p t.0 t.1,
+  sparse_elsewhere p ts t.0
+      (λ j l e. let w : t.0 < (get_or ts j (0, 0)).0 = first_below t ts c j l in omega arith),
+) (add-zero (residue p t.1))
 
 -- before its first place a rising list is 0
 sparse_before : (p : ℕ) (t : ℕ × ℕ) (ts : List (ℕ × ℕ)) → IsCombo (t ∷ ts) → (k : ℕ) → k < t.0 → sparse p (t ∷ ts) k ≡ residue p 0
@@ -163,13 +178,16 @@ sparse_before p t ts c k l = sparse_elsewhere p (t ∷ ts) k away
     away (suc j) u e = let w : t.0 < (get_or ts j (0, 0)).0 = first_below t ts c j (omega arith) in omega arith
 
 -- at the place of a term a rising list has the residue of its number
-pub sparse_at : (p : ℕ) (ts : List (ℕ × ℕ)) → IsCombo ts → (j : ℕ) → j < length ts → sparse p ts (get_or ts j (0, 0)).0 ≡ residue p (get_or ts j (0, 0)).1
+pub sparse_at : (p : ℕ) (ts : List (ℕ × ℕ)) → IsCombo ts → (j : ℕ) → j < length ts
+    → sparse p ts (get_or ts j (0, 0)).0 ≡ residue p (get_or ts j (0, 0)).1
 sparse_at p [] c j l = absurd (omega arith)
 sparse_at p (t ∷ ts) c zero l = sparse_first p t ts c
 sparse_at p (t ∷ ts) c (suc j) l =
     let w : t.0 < (get_or ts j (0, 0)).0 = first_below t ts c j (omega arith) in
-    ap (λ v. v (get_or ts j (0, 0)).0) (sparse-cons p t ts) ∙ ap (λ a. a ⊕ sparse p ts (get_or ts j (0, 0)).0) (single_elsewhere p t.0 t.1 (get_or ts j (0, 0)).0 (omega arith))
-    ∙ add_comm (residue p 0) (sparse p ts (get_or ts j (0, 0)).0) ∙ add-zero (sparse p ts (get_or ts j (0, 0)).0) ∙ sparse_at p ts (IsCombo-tail t ts c) j (omega arith)
+    ap (λ v. v (get_or ts j (0, 0)).0) (sparse-cons p t ts) ∙ ap (λ a. a ⊕ sparse p ts (get_or ts j (0, 0)).0)
+    (single_elsewhere p t.0 t.1 (get_or ts j (0, 0)).0 (omega arith))
+    ∙ add_comm (residue p 0) (sparse p ts (get_or ts j (0, 0)).0) ∙ add-zero (sparse p ts (get_or ts j (0, 0)).0)
+    ∙ sparse_at p ts (IsCombo-tail t ts c) j (omega arith)
 
 -- a residue from 1 to p - 1 is not 0
 pub some_residue : (p a : ℕ) → 0 < a → a < p → residue p a ≢ residue p 0
@@ -184,12 +202,15 @@ rests_equal : (p : ℕ) → 0 < p → (s u w : Vector p) → s ⊞ u ≡ s ⊞ w
 rests_equal p positive s u w e = λ i k. add_cancel positive (u k) (w k) (s k) (add_comm (u k) (s k) ∙ ap (λ v. v k) e ∙ add_comm (s k) (w k)) i
 
 -- a list with rising places and residues other than 0 is the only one for its vector
-pub sparse-injective : (p : ℕ) (ts us : List (ℕ × ℕ)) → IsCombo ts → IsCombo us → All (λ t. t.1 < p) ts → All (λ t. t.1 < p) us → sparse p ts ≡ sparse p us → ts ≡ us
+pub sparse-injective : (p : ℕ) (ts us : List (ℕ × ℕ)) → IsCombo ts → IsCombo us → All (λ t. t.1 < p) ts → All (λ t. t.1 < p) us
+    → sparse p ts ≡ sparse p us → ts ≡ us
 sparse-injective p [] [] c d a b e = refl
 sparse-injective p [] (u ∷ us) c d a b e =
-    absurd (some_residue p u.1 (All-head (λ t. 0 < t.1) u us d.nonzero) (All-head (λ t. t.1 < p) u us b) (sym (sparse_first p u us d) ∙ ap (λ v. v u.0) (sym e ∙ sparse_nil p)))
+    absurd (some_residue p u.1 (All-head (λ t. 0 < t.1) u us d.nonzero) (All-head (λ t. t.1 < p) u us b)
+    (sym (sparse_first p u us d) ∙ ap (λ v. v u.0) (sym e ∙ sparse_nil p)))
 sparse-injective p (t ∷ ts) [] c d a b e =
-    absurd (some_residue p t.1 (All-head (λ t. 0 < t.1) t ts c.nonzero) (All-head (λ t. t.1 < p) t ts a) (sym (sparse_first p t ts c) ∙ ap (λ v. v t.0) (e ∙ sparse_nil p)))
+    absurd (some_residue p t.1 (All-head (λ t. 0 < t.1) t ts c.nonzero) (All-head (λ t. t.1 < p) t ts a)
+    (sym (sparse_first p t ts c) ∙ ap (λ v. v t.0) (e ∙ sparse_nil p)))
 sparse-injective p (t ∷ ts) (u ∷ us) c d a b e = by_place (ℕ_discrete t.0 u.0) (sparse-injective p ts us)
   where
     t_some : residue p t.1 ≢ residue p 0
@@ -202,10 +223,12 @@ sparse-injective p (t ∷ ts) (u ∷ us) c d a b e = by_place (ℕ_discrete t.0 
     apart n (inl l) = t_some (sym (sparse_first p t ts c) ∙ ap (λ v. v t.0) e ∙ sparse_before p u us d t.0 l)
     apart n (inr l) = u_some (sym (sparse_first p u us d) ∙ ap (λ v. v u.0) (sym e) ∙ sparse_before p t ts c u.0 (omega arith))
 
-    by_place : Dec (t.0 ≡ u.0) → (IsCombo ts → IsCombo us → All (λ t. t.1 < p) ts → All (λ t. t.1 < p) us → sparse p ts ≡ sparse p us → ts ≡ us) → t ∷ ts ≡ u ∷ us
+    by_place : Dec (t.0 ≡ u.0) → (IsCombo ts → IsCombo us → All (λ t. t.1 < p) ts → All (λ t. t.1 < p) us → sparse p ts ≡ sparse p us → ts ≡ us)
+        → t ∷ ts ≡ u ∷ us
     by_place (no n) smaller = absurd (apart n (cases_lt t.0 u.0))
     by_place (yes same) smaller =
-        let values : residue p t.1 ≡ residue p u.1 = sym (sparse_first p t ts c) ∙ ap (λ v. v t.0) e ∙ ap (sparse p (u ∷ us)) same ∙ sparse_first p u us d in
+        let values : residue p t.1 ≡ residue p u.1 = sym (sparse_first p t ts c) ∙ ap (λ v. v t.0) e ∙ ap (sparse p (u ∷ us)) same
+        ∙ sparse_first p u us d in
         let low : t.1 < p = All-head (λ t. t.1 < p) t ts a in
         let low' : u.1 < p = All-head (λ t. t.1 < p) u us b in
         let number : t.1 ≡ u.1 = sym (mod-eq_of_lt low) ∙ mod_from_residue p t.1 u.1 values ∙ mod-eq_of_lt low' in
@@ -219,20 +242,25 @@ pub row-sparse_rows : (p : ℕ) (rows : List (List (ℕ × ℕ))) (j : ℕ) → 
 row-sparse_rows p rows j l = row-map (sparse p) rows j [] l
 
 -- a rising list is the vector of a list of numbers where the residues at its places are those of its numbers and the others are 0
-pub sparse_from_dense : (p : ℕ) (ts : List (ℕ × ℕ)) (xs : List ℕ) → IsCombo ts → ((j : ℕ) → j < length ts → residue p (get_or xs (get_or ts j (0, 0)).0 0) ≡ residue p (get_or ts j (0, 0)).1)
+pub sparse_from_dense : (p : ℕ) (ts : List (ℕ × ℕ)) (xs : List ℕ) → IsCombo ts
+    → ((j : ℕ) → j < length ts → residue p (get_or xs (get_or ts j (0, 0)).0 0) ≡ residue p (get_or ts j (0, 0)).1)
     → ((k : ℕ) → ((j : ℕ) → j < length ts → (get_or ts j (0, 0)).0 ≢ k) → residue p (get_or xs k 0) ≡ residue p 0) → sparse p ts ≡ dense p xs
 sparse_from_dense p ts xs c terms others = λ i k. at k (lead_or_not (λ j. (get_or ts j (0, 0)).0) (length ts) k) i
   where
-    at : (k : ℕ) → ((j : ℕ) × (j < length ts) × ((get_or ts j (0, 0)).0 ≡ k)) ⊎ ((j : ℕ) → j < length ts → (get_or ts j (0, 0)).0 ≢ k) → sparse p ts k ≡ dense p xs k
-    at k (inl (j, l, e)) = subst (λ m. sparse p ts m ≡ dense p xs m) e (sparse_at p ts c j l ∙ sym (terms j l) ∙ sym (dense_at p xs (get_or ts j (0, 0)).0))
+    at : (k : ℕ) → ((j : ℕ) × (j < length ts) × ((get_or ts j (0, 0)).0 ≡ k)) ⊎ ((j : ℕ) → j < length ts → (get_or ts j (0, 0)).0 ≢ k)
+        → sparse p ts k ≡ dense p xs k
+    at k (inl (j, l, e)) = subst (λ m. sparse p ts m ≡ dense p xs m) e
+        (sparse_at p ts c j l ∙ sym (terms j l) ∙ sym (dense_at p xs (get_or ts j (0, 0)).0))
     at k (inr away) = sparse_elsewhere p ts k away ∙ sym (others k away) ∙ sym (dense_at p xs k)
 
 -- and where it is that vector, they are
-pub residues_from_sparse : (p : ℕ) (ts : List (ℕ × ℕ)) (xs : List ℕ) → IsCombo ts → sparse p ts ≡ dense p xs → (j : ℕ) → j < length ts → residue p (get_or xs (get_or ts j (0, 0)).0 0) ≡ residue p (get_or ts j (0, 0)).1
+pub residues_from_sparse : (p : ℕ) (ts : List (ℕ × ℕ)) (xs : List ℕ) → IsCombo ts → sparse p ts ≡ dense p xs → (j : ℕ) → j < length ts
+    → residue p (get_or xs (get_or ts j (0, 0)).0 0) ≡ residue p (get_or ts j (0, 0)).1
 residues_from_sparse p ts xs c e j l = sym (dense_at p xs (get_or ts j (0, 0)).0) ∙ sym (ap (λ v. v (get_or ts j (0, 0)).0) e) ∙ sparse_at p ts c j l
 
 -- and the others are 0
-pub zeros_from_sparse : (p : ℕ) (ts : List (ℕ × ℕ)) (xs : List ℕ) → sparse p ts ≡ dense p xs → (k : ℕ) → ((j : ℕ) → j < length ts → (get_or ts j (0, 0)).0 ≢ k) → residue p (get_or xs k 0) ≡ residue p 0
+pub zeros_from_sparse : (p : ℕ) (ts : List (ℕ × ℕ)) (xs : List ℕ) → sparse p ts ≡ dense p xs → (k : ℕ)
+    → ((j : ℕ) → j < length ts → (get_or ts j (0, 0)).0 ≢ k) → residue p (get_or xs k 0) ≡ residue p 0
 zeros_from_sparse p ts xs e k away = sym (dense_at p xs k) ∙ sym (ap (λ v. v k) e) ∙ sparse_elsewhere p ts k away
 
 -- a list that is a at place k and 0 elsewhere is one term
@@ -244,13 +272,20 @@ dense-single p k a xs here others = λ i j. at j (ℕ_discrete j k) i
     at j (no n) = dense_at p xs j ∙ ap (residue p) (others j n) ∙ sym (single_elsewhere p k a j (λ e. n (sym e)))
 
 -- the greatest place of a list of residues
-pub dense-greatest : (p k : ℕ) (xs : List ℕ) → 0 < get_or xs k 0 → get_or xs k 0 < p → ((i : ℕ) → k < i → get_or xs i 0 ≡ 0) → IsGreatestPlace (dense p xs) k
-dense-greatest p k xs some low others = record { at = λ e. some_residue p (get_or xs k 0) some low (sym (dense_at p xs k) ∙ e); beyond = λ i l. dense_at p xs i ∙ ap (residue p) (others i l) }
+pub dense-greatest : (p k : ℕ) (xs : List ℕ) → 0 < get_or xs k 0 → get_or xs k 0 < p → ((i : ℕ) → k < i → get_or xs i 0 ≡ 0)
+    → IsGreatestPlace (dense p xs) k
+dense-greatest p k xs some low others = record {
+  at = λ e. some_residue p (get_or xs k 0) some low (sym (dense_at p xs k) ∙ e);
+  beyond =
+      λ i l. dense_at p xs i ∙ ap (residue p) (others i l);
+}
 
 -- and of a rising list of terms: its last place
-pub sparse-greatest : (p : ℕ) (ts : List (ℕ × ℕ)) → IsCombo ts → All (λ t. t.1 < p) ts → (j : ℕ) → j + 1 ≡ length ts → IsGreatestPlace (sparse p ts) (get_or ts j (0, 0)).0
+pub sparse-greatest : (p : ℕ) (ts : List (ℕ × ℕ)) → IsCombo ts → All (λ t. t.1 < p) ts → (j : ℕ) → j + 1 ≡ length ts
+    → IsGreatestPlace (sparse p ts) (get_or ts j (0, 0)).0
 sparse-greatest p ts c low j last = record {
-  at = λ e. some_residue p (get_or ts j (0, 0)).1 (All-get_or (λ t. 0 < t.1) ts j (0, 0) (omega arith) c.nonzero) (All-get_or (λ t. t.1 < p) ts j (0, 0) (omega arith) low) (sym (sparse_at p ts c j (omega arith)) ∙ e);
+  at = λ e. some_residue p (get_or ts j (0, 0)).1 (All-get_or (λ t. 0 < t.1) ts j (0, 0) (omega arith) c.nonzero)
+      (All-get_or (λ t. t.1 < p) ts j (0, 0) (omega arith) low) (sym (sparse_at p ts c j (omega arith)) ∙ e);
   beyond = λ i l. sparse_elsewhere p ts i (λ q u e. past i l q u e (ℕ_discrete q j));
 }
   where

@@ -39,7 +39,8 @@ EndsBefore-minus {p} positive d v w h g k l = rw (h k l, g k l) (sub_self positi
 -- combinations of rows of length d have length d
 pub EndsBefore-combination : {p : ℕ} (d : ℕ) (c : Vector p) (rows : List (Vector p)) → Each (EndsBefore d) rows → EndsBefore d (combination c rows)
 EndsBefore-combination d c [] none = EndsBefore-zeros d
-EndsBefore-combination d c (r ∷ rows) (more h hs) = EndsBefore-plus d (c 0 ⊡ r) (combination (tail c) rows) (EndsBefore-scale d (c 0) r h) (EndsBefore-combination d (tail c) rows hs)
+EndsBefore-combination d c (r ∷ rows) (more h hs) = EndsBefore-plus d (c 0 ⊡ r) (combination (tail c) rows) (EndsBefore-scale d (c 0) r h)
+    (EndsBefore-combination d (tail c) rows hs)
 
 -- and so do the vectors of their span
 pub EndsBefore-InSpan : {p : ℕ} (d : ℕ) (rows : List (Vector p)) (v : Vector p) → Each (EndsBefore d) rows → InSpan rows v → EndsBefore d v
@@ -57,6 +58,7 @@ greatest_or_zeros {p} (suc d) v ends = at_last (zero_or_not (v d)) (greatest_or_
     wider (inl z) = inl z
     wider (inr (k, l, g)) = inr (k, omega arith, g)
 
-    at_last : (v d ≡ residue p 0) ⊎ (v d ≢ residue p 0) → (EndsBefore d v → (v ≡ zeros) ⊎ ((k : ℕ) × (k < d) × IsGreatestPlace v k)) → (v ≡ zeros) ⊎ ((k : ℕ) × (k < suc d) × IsGreatestPlace v k)
+    at_last : (v d ≡ residue p 0) ⊎ (v d ≢ residue p 0) → (EndsBefore d v → (v ≡ zeros) ⊎ ((k : ℕ) × (k < d) × IsGreatestPlace v k))
+        → (v ≡ zeros) ⊎ ((k : ℕ) × (k < suc d) × IsGreatestPlace v k)
     at_last (inl z) smaller = wider (smaller (shorter z))
     at_last (inr n) smaller = inr (d, omega arith, record { at = n; beyond = λ i l. ends i (omega arith) })

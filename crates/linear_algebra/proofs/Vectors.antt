@@ -59,7 +59,8 @@ one-scale v = λ i k. ResidueLaws.one-mul (v k) i
 -- a combination by a sum of coefficients
 pub combination-plus : {p : ℕ} (c d : Vector p) (rows : List (Vector p)) → combination (c ⊞ d) rows ≡ combination c rows ⊞ combination d rows
 combination-plus c d [] = sym (plus-zeros zeros)
-combination-plus c d (r ∷ rs) = rw (combination-plus (tail c) (tail d) rs, plus-scale (c 0) (d 0) r) (plus_middle (c 0 ⊡ r) (d 0 ⊡ r) (combination (tail c) rs) (combination (tail d) rs))
+combination-plus c d (r ∷ rs) = rw (combination-plus (tail c) (tail d) rs, plus-scale (c 0) (d 0) r)
+    (plus_middle (c 0 ⊡ r) (d 0 ⊡ r) (combination (tail c) rs) (combination (tail d) rs))
 
 -- a combination by a multiple of the coefficients
 pub combination-scale : {p : ℕ} (a : Residue p) (c : Vector p) (rows : List (Vector p)) → combination (a ⊡ c) rows ≡ a ⊡ combination c rows
@@ -72,6 +73,12 @@ combination-zeros [] = refl
 combination-zeros (r ∷ rs) = rw (combination-zeros rs, zero-scale r) (plus-zeros zeros)
 
 -- a combination of combinations is a combination
-pub combination-combinations : {p : ℕ} (c : Vector p) (ds basis : List (Vector p)) → combination c (map (λ d. combination d basis) ds) ≡ combination (combination c ds) basis
+pub combination-combinations : {p : ℕ} (c : Vector p) (ds basis : List (Vector p))
+    → combination c (map (λ d. combination d basis) ds) ≡ combination (combination c ds) basis
 combination-combinations c [] basis = sym (combination-zeros basis)
-combination-combinations c (d ∷ ds) basis = rw (combination-combinations (tail c) ds basis, combination-plus (c 0 ⊡ d) (combination (tail c) ds) basis, combination-scale (c 0) d basis)
+combination-combinations c (d ∷ ds) basis = rw (
+  combination-combinations (tail c) ds basis,
+  combination-plus (c 0 ⊡ d) (combination (tail c) ds)
+      basis,
+  combination-scale (c 0) d basis,
+)

@@ -34,7 +34,8 @@ pub symbols_of_pair : (N k : ℕ) → k < length (symbols N) → relation_symbol
 symbols_of_pair N k l = cond-true (nat_lt k (length (symbols N))) (s_pair N k) (t_triple N (k - length (symbols N))) (lt-ltb k (length (symbols N)) l)
 
 pub symbols_of_triple : (N k : ℕ) → length (symbols N) ≤ k → relation_symbols N k ≡ t_triple N (k - length (symbols N))
-symbols_of_triple N k l = cond-false (nat_lt k (length (symbols N))) (s_pair N k) (t_triple N (k - length (symbols N))) (le-ltb k (length (symbols N)) l)
+symbols_of_triple N k l = cond-false (nat_lt k (length (symbols N))) (s_pair N k) (t_triple N (k - length (symbols N)))
+    (le-ltb k (length (symbols N)) l)
 
 -- S and T keep the numbers of symbols
 pub s-lt : (N k : ℕ) → k < length (symbols N) → image_number N k matrix_s < length (symbols N)
@@ -53,18 +54,23 @@ relation_symbols-lt N k l = elim (cases_lt k (length (symbols N))) [
   | inr above ↦
       let j : ℕ = k - length (symbols N) in
       let within : j < length (symbols N) = omega arith in
-      subst (All (λ j. j < length (symbols N))) (sym (symbols_of_triple N k above)) (All-cons (λ j. j < length (symbols N)) j (image_number N j matrix_t ∷ image_number N (image_number N j matrix_t) matrix_t ∷ []) within (two (image_number N j matrix_t) (image_number N (image_number N j matrix_t) matrix_t) (t-lt N j within) (t-t-lt N j within)))
+      subst (All (λ j. j < length (symbols N))) (sym (symbols_of_triple N k above))
+      (All-cons (λ j. j < length (symbols N)) j (image_number N j matrix_t ∷ image_number N (image_number N j matrix_t) matrix_t ∷ []) within
+      (two (image_number N j matrix_t) (image_number N (image_number N j matrix_t) matrix_t) (t-lt N j within) (t-t-lt N j within)))
 ]
   where
     two : (a b : ℕ) → a < length (symbols N) → b < length (symbols N) → All (λ j. j < length (symbols N)) (a ∷ b ∷ [])
-    two a b f g = All-cons (λ j. j < length (symbols N)) a (b ∷ []) f (All-cons (λ j. j < length (symbols N)) b [] g (All-nil (λ j. j < length (symbols N))))
+    two a b f g = All-cons (λ j. j < length (symbols N)) a (b ∷ []) f (All-cons (λ j. j < length (symbols N)) b [] g
+        (All-nil (λ j. j < length (symbols N))))
 
 -- the relations in which symbol s occurs, with repeats: those that begin with s and s S, and with s, s T and s T T
 abbrev pub touching : ℕ → ℕ → List ℕ
-touching N s = s ∷ image_number N s matrix_s ∷ (length (symbols N) + s) ∷ (length (symbols N) + image_number N s matrix_t) ∷ (length (symbols N) + image_number N (image_number N s matrix_t) matrix_t) ∷ []
+touching N s = s ∷ image_number N s matrix_s ∷ (length (symbols N) + s) ∷ (length (symbols N) + image_number N s matrix_t)
+    ∷ (length (symbols N) + image_number N (image_number N s matrix_t) matrix_t) ∷ []
 
 -- s occurs in relation k as often as k stands among the relations that s touches
-pub occurrences_touching : (N s k : ℕ) → s < length (symbols N) → k < 2 * length (symbols N) → count_by (nat_eq s) (relation_symbols N k) ≡ count_by (nat_eq k) (touching N s)
+pub occurrences_touching : (N s k : ℕ) → s < length (symbols N) → k < 2 * length (symbols N)
+    → count_by (nat_eq s) (relation_symbols N k) ≡ count_by (nat_eq k) (touching N s)
 occurrences_touching N s k s_below k_below = elim (cases_lt k (length (symbols N))) [
   | inl below ↦ ap (count_by (nat_eq s)) (symbols_of_pair N k below) ∙ pair k below
   | inr above ↦
@@ -94,10 +100,14 @@ occurrences_touching N s k s_below k_below = elim (cases_lt k (length (symbols N
         let first = one_where_apart (length (symbols N) + j) s (λ e. omega arith) in
         let second = one_where_apart (length (symbols N) + j) S (λ e. omega arith) in
         let third = one_where_same s j (length (symbols N) + j) (length (symbols N) + s) (λ e. omega arith) (λ e. omega arith) in
-        let fourth = one_where_same s (image_number N (image_number N j matrix_t) matrix_t) (length (symbols N) + j) (length (symbols N) + image_number N s matrix_t)
+        let fourth = one_where_same s (image_number N (image_number N j matrix_t) matrix_t) (length (symbols N) + j)
+        (length (symbols N) + image_number N s matrix_t)
         (λ e. ap (λ i. length (symbols N) + i) (sym (t_thrice N j below) ∙ ap (λ i. image_number N i matrix_t) (sym e)))
-        (λ e. let same : j ≡ image_number N s matrix_t = omega arith in sym (t_thrice N s s_below) ∙ ap (λ i. image_number N (image_number N i matrix_t) matrix_t) (sym same)) in
-        let fifth = one_where_same s (image_number N j matrix_t) (length (symbols N) + j) (length (symbols N) + image_number N (image_number N s matrix_t) matrix_t)
+        (λ e. let same : j ≡ image_number N s matrix_t = omega arith in sym (t_thrice N s s_below)
+        ∙ ap (λ i. image_number N (image_number N i matrix_t) matrix_t) (sym same)) in
+        let fifth = one_where_same s (image_number N j matrix_t) (length (symbols N) + j)
+        (length (symbols N) + image_number N (image_number N s matrix_t) matrix_t)
         (λ e. ap (λ i. length (symbols N) + i) (sym (t_thrice N j below) ∙ ap (λ i. image_number N (image_number N i matrix_t) matrix_t) (sym e)))
-        (λ e. let same : j ≡ image_number N (image_number N s matrix_t) matrix_t = omega arith in sym (t_thrice N s s_below) ∙ ap (λ i. image_number N i matrix_t) (sym same)) in
+        (λ e. let same : j ≡ image_number N (image_number N s matrix_t) matrix_t = omega arith in sym (t_thrice N s s_below)
+        ∙ ap (λ i. image_number N i matrix_t) (sym same)) in
         omega (arith, first, second, third, fourth, fifth)

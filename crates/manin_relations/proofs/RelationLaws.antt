@@ -40,14 +40,17 @@ sum_of_two : (p a b : ℕ) → sparse p (ones 1 (a ∷ b ∷ [])) ≡ unit a ⊞
 sum_of_two p a b = sparse-cons p (a, 1) ((b, 1) ∷ []) ∙ ap (λ v. single p a 1 ⊞ v) (sparse-one p (b, 1))
 
 sum_of_three : (p a b d : ℕ) → sparse p (ones 1 (a ∷ b ∷ d ∷ [])) ≡ unit a ⊞ unit b ⊞ unit d
-sum_of_three p a b d = sparse-cons p (a, 1) ((b, 1) ∷ (d, 1) ∷ []) ∙ ap (λ v. single p a 1 ⊞ v) (sum_of_two p b d) ∙ sym (plus_assoc (single p a 1) (single p b 1) (single p d 1))
+sum_of_three p a b d = sparse-cons p (a, 1) ((b, 1) ∷ (d, 1) ∷ []) ∙ ap (λ v. single p a 1 ⊞ v) (sum_of_two p b d)
+    ∙ sym (plus_assoc (single p a 1) (single p b 1) (single p d 1))
 
 -- relation k is the sum of symbol k and its image by S
 pub relation_pair : (p N k : ℕ) → k < length (symbols N) → relation {p = p} N k ≡ unit k ⊞ unit (image_number N k matrix_s)
-relation_pair p N k l = sym (relation_ones p 1 N k refl) ∙ ap (λ ks. sparse p (ones 1 ks)) (symbols_of_pair N k l) ∙ sum_of_two p k (image_number N k matrix_s)
+relation_pair p N k l = sym (relation_ones p 1 N k refl) ∙ ap (λ ks. sparse p (ones 1 ks)) (symbols_of_pair N k l)
+    ∙ sum_of_two p k (image_number N k matrix_s)
 
 -- relation m + k is the sum of symbol k and its images by T and T twice
-pub relation_triple : (p N k : ℕ) → k < length (symbols N) → relation {p = p} N (length (symbols N) + k) ≡ unit k ⊞ unit (image_number N k matrix_t) ⊞ unit (image_number N (image_number N k matrix_t) matrix_t)
+pub relation_triple : (p N k : ℕ) → k < length (symbols N) → relation {p = p} N (length (symbols N) + k) ≡ unit k ⊞ unit (image_number N k matrix_t)
+    ⊞ unit (image_number N (image_number N k matrix_t) matrix_t)
 relation_triple p N k l =
     let j : ℕ = length (symbols N) + k in
     let back : j - length (symbols N) ≡ k = omega arith in
@@ -59,5 +62,7 @@ pub Congruent-pair : (p N k : ℕ) → 0 < p → k < length (symbols N) → Cong
 Congruent-pair p N k positive l = subst (λ v. Congruent {p = p} N v zeros) (relation_pair p N k l) (Congruent-relation p N k positive (omega arith))
 
 -- the three-term relation of symbol k
-pub Congruent-triple : (p N k : ℕ) → 0 < p → k < length (symbols N) → Congruent {p = p} N (unit k ⊞ unit (image_number N k matrix_t) ⊞ unit (image_number N (image_number N k matrix_t) matrix_t)) zeros
-Congruent-triple p N k positive l = subst (λ v. Congruent {p = p} N v zeros) (relation_triple p N k l) (Congruent-relation p N (length (symbols N) + k) positive (omega arith))
+pub Congruent-triple : (p N k : ℕ) → 0 < p → k < length (symbols N) → Congruent {p = p} N
+    (unit k ⊞ unit (image_number N k matrix_t) ⊞ unit (image_number N (image_number N k matrix_t) matrix_t)) zeros
+Congruent-triple p N k positive l = subst (λ v. Congruent {p = p} N v zeros) (relation_triple p N k l)
+    (Congruent-relation p N (length (symbols N) + k) positive (omega arith))

@@ -22,9 +22,11 @@ sparse_rows-push : (p : ℕ) (rows : List (List (ℕ × ℕ))) (c : List (ℕ ×
 sparse_rows-push p [] c = refl
 sparse_rows-push p (r ∷ rows) c = ap (λ vs. sparse p r ∷ vs) (sparse_rows-push p rows c)
 
-pub rows_more : (N p n : ℕ) (rows : List (List (ℕ × ℕ))) (c : List (ℕ × ℕ)) → AreFirstRelations N p n rows → IsRelation N p n c → AreFirstRelations N p (n + 1) (rows ++ c ∷ [])
+pub rows_more : (N p n : ℕ) (rows : List (List (ℕ × ℕ))) (c : List (ℕ × ℕ)) → AreFirstRelations N p n rows → IsRelation N p n c
+    → AreFirstRelations N p (n + 1) (rows ++ c ∷ [])
 rows_more N p n rows c h is = record {
-  vectors = sparse_rows-push p rows c ∙ ap (λ vs. vs ++ sparse p c ∷ []) h.vectors ∙ ap (λ v. map (relation {p = p} N) (range_with_len 0 n) ++ v ∷ []) is.vector
+  vectors = sparse_rows-push p rows c ∙ ap (λ vs. vs ++ sparse p c ∷ []) h.vectors
+      ∙ ap (λ v. map (relation {p = p} N) (range_with_len 0 n) ++ v ∷ []) is.vector
       ∙ sym (map-range_with_len_more (relation {p = p} N) 0 n n (omega arith));
   residues = All-push (HasResidues p) rows c h.residues is.residues;
   places = All-push (HasPlacesBelow (length (symbols N))) rows c h.places is.places;

@@ -32,14 +32,18 @@ hit-more : {p : ℕ} (c : Vector p) (n t : ℕ) → hit c (n + 1) t ≡ hit c n 
 hit-more {p} c n t = elim (cases_order t n) [
   | inl same ↦
       hit-in c (n + 1) t (omega arith) ∙ ap c same
-      ∙ sym (ap (λ r. r ⊕ (c n ⊗ residue p (one_where n t))) (hit-out c n t (omega arith)) ∙ zero-add (c n ⊗ residue p (one_where n t)) ∙ ap (λ k. c n ⊗ residue p k) (one_where_equal n t (sym same)) ∙ mul-one (c n))
+      ∙ sym (ap (λ r. r ⊕ (c n ⊗ residue p (one_where n t))) (hit-out c n t (omega arith)) ∙ zero-add (c n ⊗ residue p (one_where n t))
+      ∙ ap (λ k. c n ⊗ residue p k) (one_where_equal n t (sym same)) ∙ mul-one (c n))
   | inr apart ↦ elim apart [
     | inl before ↦
         hit-in c (n + 1) t (omega arith)
-        ∙ sym (ap (λ r. r ⊕ (c n ⊗ residue p (one_where n t))) (hit-in c n t before) ∙ ap (λ k. c t ⊕ (c n ⊗ residue p k)) (one_where_apart n t (λ e. omega arith)) ∙ ap (λ r. c t ⊕ r) (mul-zero (c n)) ∙ add-zero (c t))
+        ∙ sym (ap (λ r. r ⊕ (c n ⊗ residue p (one_where n t))) (hit-in c n t before)
+        ∙ ap (λ k. c t ⊕ (c n ⊗ residue p k)) (one_where_apart n t (λ e. omega arith)) ∙ ap (λ r. c t ⊕ r) (mul-zero (c n)) ∙ add-zero (c t))
     | inr after ↦
         hit-out c (n + 1) t (omega arith)
-        ∙ sym (ap (λ r. r ⊕ (c n ⊗ residue p (one_where n t))) (hit-out c n t (omega arith)) ∙ ap (λ k. residue p 0 ⊕ (c n ⊗ residue p k)) (one_where_apart n t (λ e. omega arith)) ∙ ap (λ r. residue p 0 ⊕ r) (mul-zero (c n)) ∙ add-zero (residue p 0))
+        ∙ sym (ap (λ r. r ⊕ (c n ⊗ residue p (one_where n t))) (hit-out c n t (omega arith))
+        ∙ ap (λ k. residue p 0 ⊕ (c n ⊗ residue p k)) (one_where_apart n t (λ e. omega arith)) ∙ ap (λ r. residue p 0 ⊕ r) (mul-zero (c n))
+        ∙ add-zero (residue p 0))
   ]
 ]
 
@@ -54,16 +58,19 @@ hits-more {p} c n (t ∷ ts) =
 
 hits-none : {p : ℕ} (c : Vector p) (ts : List ℕ) → hits c 0 ts ≡ residue p 0
 hits-none c [] = refl
-hits-none {p} c (t ∷ ts) = ap (λ r. r ⊕ hits c 0 ts) (hit-out c 0 t (omega arith)) ∙ ap (λ r. residue p 0 ⊕ r) (hits-none c ts) ∙ add-zero (residue p 0)
+hits-none {p} c (t ∷ ts) = ap (λ r. r ⊕ hits c 0 ts) (hit-out c 0 t (omega arith)) ∙ ap (λ r. residue p 0 ⊕ r) (hits-none c ts)
+    ∙ add-zero (residue p 0)
 
 -- the first n relations
-combination_hits : (p N s n : ℕ) (c : Vector p) → s < length (symbols N) → n ≤ 2 * length (symbols N) → combination c (map (relation {p = p} N) (range_with_len 0 n)) s ≡ hits c n (touching N s)
+combination_hits : (p N s n : ℕ) (c : Vector p) → s < length (symbols N) → n ≤ 2 * length (symbols N)
+    → combination c (map (relation {p = p} N) (range_with_len 0 n)) s ≡ hits c n (touching N s)
 unfolding relation
 combination_hits p N s zero c s_below l = sym (hits-none c (touching N s))
 combination_hits p N s (suc n) c s_below l =
     let one_more : n + 1 ≡ suc n = omega arith in
     let rows : List (Vector p) = map (relation {p = p} N) (range_with_len 0 n) in
-    let split : map (relation {p = p} N) (range_with_len 0 (n + 1)) ≡ rows ++ relation {p = p} N n ∷ [] = map-range_with_len_more (relation {p = p} N) 0 n n (omega arith) in
+    let split : map (relation {p = p} N) (range_with_len 0 (n + 1)) ≡ rows ++ relation {p = p} N n ∷ [] =
+    map-range_with_len_more (relation {p = p} N) 0 n n (omega arith) in
     ap (λ k. combination c (map (relation {p = p} N) (range_with_len 0 k)) s) (sym one_more)
     ∙ ap (λ rs. combination c rs s) split
     ∙ ap (λ v. v s) (combination_last c rows (relation {p = p} N n))
@@ -75,7 +82,9 @@ combination_hits p N s (suc n) c s_below l =
 
 -- all relations
 pub combination_relations : (p N s : ℕ) (c : Vector p) → s < length (symbols N) → combination c (relations N) s
-    ≡ c s ⊕ (c (image_number N s matrix_s) ⊕ (c (length (symbols N) + s) ⊕ (c (length (symbols N) + image_number N s matrix_t) ⊕ (c (length (symbols N) + image_number N (image_number N s matrix_t) matrix_t) ⊕ residue p 0))))
+    ≡ c s ⊕ (c (image_number N s matrix_s) ⊕ (c (length (symbols N) + s)
+    ⊕ (c (length (symbols N) + image_number N s matrix_t) ⊕ (c (length (symbols N) + image_number N (image_number N s matrix_t) matrix_t)
+    ⊕ residue p 0))))
 combination_relations p N s c l =
     let m : ℕ = length (symbols N) in
     let by_s : ℕ = image_number N s matrix_s in
@@ -85,10 +94,18 @@ combination_relations p N s c l =
     let t_within : by_t < m = t-lt N s l in
     let t_t_within : by_t_t < m = t-t-lt N s l in
     combination_hits p N s (2 * m) c l (omega arith)
-    ∙ rw (hit-in c (2 * m) s (omega arith), hit-in c (2 * m) by_s (omega arith), hit-in c (2 * m) (m + s) (omega arith), hit-in c (2 * m) (m + by_t) (omega arith), hit-in c (2 * m) (m + by_t_t) (omega arith)) refl
+    ∙ rw (
+      hit-in c (2 * m) s (omega arith),
+      hit-in c (2 * m) by_s (omega arith),
+      hit-in c (2 * m) (m + s) (omega arith),
+      hit-in c (2 * m) (m + by_t)
+          (omega arith),
+      hit-in c (2 * m) (m + by_t_t) (omega arith),
+    ) refl
 
 -- what the code adds up
-pub sum_value : (p N s q m w t u a b d e f : ℕ) (x : Vector p) → s < length (symbols N) → q ≡ p → m ≡ length (symbols N) → w ≡ image_number N s matrix_s → t ≡ image_number N s matrix_t → u ≡ image_number N t matrix_t
+pub sum_value : (p N s q m w t u a b d e f : ℕ) (x : Vector p) → s < length (symbols N) → q ≡ p → m ≡ length (symbols N)
+    → w ≡ image_number N s matrix_s → t ≡ image_number N s matrix_t → u ≡ image_number N t matrix_t
     → residue p a ≡ x s → residue p b ≡ x w → residue p d ≡ x (m + s) → residue p e ≡ x (m + t) → residue p f ≡ x (m + u)
     → residue p ((a + b + (d + e + f)) % q) ≡ combination x (relations N) s
 sum_value p N s q m w t u a b d e f x l level count by_s by_t by_t_t at_s at_w at_ms at_mt at_mu =
@@ -96,10 +113,13 @@ sum_value p N s q m w t u a b d e f x l level count by_s by_t by_t_t at_s at_w a
     let second : residue p b ≡ x (image_number N s matrix_s) = at_w ∙ ap x by_s in
     let third : residue p d ≡ x (M + s) = at_ms ∙ ap (λ i. x (i + s)) count in
     let fourth : residue p e ≡ x (M + image_number N s matrix_t) = at_mt ∙ ap (λ i. x (i + t)) count ∙ ap (λ i. x (M + i)) by_t in
-    let fifth : residue p f ≡ x (M + image_number N (image_number N s matrix_t) matrix_t) = at_mu ∙ ap (λ i. x (i + u)) count ∙ ap (λ i. x (M + i)) (by_t_t ∙ ap (λ i. image_number N i matrix_t) by_t) in
+    let fifth : residue p f ≡ x (M + image_number N (image_number N s matrix_t) matrix_t) = at_mu ∙ ap (λ i. x (i + u)) count
+    ∙ ap (λ i. x (M + i)) (by_t_t ∙ ap (λ i. image_number N i matrix_t) by_t) in
     ap (λ i. residue p ((a + b + (d + e + f)) % i)) level
     ∙ spread a b d e f
     ∙ rw (at_s, second, third, fourth, fifth) (sym (combination_relations p N s x l))
   where
-    spread : (a b d e f : ℕ) → residue p ((a + b + (d + e + f)) % p) ≡ residue p a ⊕ (residue p b ⊕ (residue p d ⊕ (residue p e ⊕ (residue p f ⊕ residue p 0))))
-    spread a b d e f = same_residue (residue p ((a + b + (d + e + f)) % p)) (residue p a ⊕ (residue p b ⊕ (residue p d ⊕ (residue p e ⊕ (residue p f ⊕ residue p 0))))) (simp values (ap (λ n. n % p) (omega arith)))
+    spread : (a b d e f : ℕ) → residue p ((a + b + (d + e + f)) % p) ≡ residue p
+        a ⊕ (residue p b ⊕ (residue p d ⊕ (residue p e ⊕ (residue p f ⊕ residue p 0))))
+    spread a b d e f = same_residue (residue p ((a + b + (d + e + f)) % p))
+        (residue p a ⊕ (residue p b ⊕ (residue p d ⊕ (residue p e ⊕ (residue p f ⊕ residue p 0))))) (simp values (ap (λ n. n % p) (omega arith)))

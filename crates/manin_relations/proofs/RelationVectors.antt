@@ -29,7 +29,8 @@ sparse-ones p a (k ∷ ks) j one =
     ∙ ap (residue p) (sym (count_by-cons j k ks))
   where
     both : (t : Bool) (n : ℕ) → cond t (residue p a) (residue p 0) ⊕ residue p n ≡ residue p (cond t 1 0 + n)
-    both true n = ap (λ r. r ⊕ residue p n) (same_residue (residue p a) (residue p 1) (simp values one)) ∙ same_residue (residue p 1 ⊕ residue p n) (residue p (1 + n)) (simp values)
+    both true n = ap (λ r. r ⊕ residue p n) (same_residue (residue p a) (residue p 1) (simp values one))
+        ∙ same_residue (residue p 1 ⊕ residue p n) (residue p (1 + n)) (simp values)
     both false n = same_residue (residue p 0 ⊕ residue p n) (residue p (0 + n)) (simp values)
 
 -- relation k is the sum of its symbols
@@ -41,14 +42,18 @@ relation_ones p a N k one = λ i j. sparse-ones p a (relation_symbols N k) j one
 pub EndsBefore-relation : (p N k : ℕ) → k < 2 * length (symbols N) → EndsBefore (length (symbols N)) (relation {p = p} N k)
 EndsBefore-relation p N k l j above =
     ap (λ v. v j) (sym (relation_ones p 1 N k refl))
-    ∙ EndsBefore-sparse p (length (symbols N)) (ones 1 (relation_symbols N k)) (All-map (λ t. t.0 < length (symbols N)) (λ k. (k, 1)) (relation_symbols N k) (relation_symbols-lt N k l)) j above
+    ∙ EndsBefore-sparse p (length (symbols N)) (ones 1 (relation_symbols N k))
+    (All-map (λ t. t.0 < length (symbols N)) (λ k. (k, 1)) (relation_symbols N k) (relation_symbols-lt N k l)) j above
 
 -- the sum of the symbols of relation k, each with the residue of 1, is relation k
-pub IsRelation-from_sum : (N p k : ℕ) (ks : List ℕ) (c : List (ℕ × ℕ)) → k < 2 * length (symbols N) → relation_symbols N k ≡ ks → IsSum p (ones (1 % p) ks) c → IsRelation N p k c
+pub IsRelation-from_sum : (N p k : ℕ) (ks : List ℕ) (c : List (ℕ × ℕ)) → k < 2 * length (symbols N) → relation_symbols N k ≡ ks
+    → IsSum p (ones (1 % p) ks) c → IsRelation N p k c
 IsRelation-from_sum N p k ks c l same sum =
-    let vector : sparse p c ≡ relation {p = p} N k = sum.vector ∙ ap (λ js. sparse p (ones (1 % p) js)) (sym same) ∙ relation_ones p (1 % p) N k (mod-mod 1 p) in
+    let vector : sparse p c ≡ relation {p = p} N k = sum.vector ∙ ap (λ js. sparse p (ones (1 % p) js)) (sym same)
+    ∙ relation_ones p (1 % p) N k (mod-mod 1 p) in
     record {
       vector = vector;
       residues = sum.residues;
-      places = HasPlacesBelow-from_vector p (length (symbols N)) c sum.combo sum.residues (subst (EndsBefore (length (symbols N))) (sym vector) (EndsBefore-relation p N k l));
+      places = HasPlacesBelow-from_vector p (length (symbols N)) c sum.combo sum.residues
+          (subst (EndsBefore (length (symbols N))) (sym vector) (EndsBefore-relation p N k l));
     }

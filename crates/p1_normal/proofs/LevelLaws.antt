@@ -39,7 +39,8 @@ common_divisor-reduced (suc n) u v some =
     gcd_from_IsGcd (gcd (unsigned_abs u) (unsigned_abs v)) N g (
       parts.2 g ((dvd-residue n g u outer.1).0 (dvd_trans g outer.0 inner.0)) ((dvd-residue n g v outer.1).0 (dvd_trans g outer.0 inner.1)),
       outer.1,
-      λ d in_both in_level. outer.2 d (inner.2 d ((dvd-residue n d u in_level).1 (dvd_trans d in_both parts.0)) ((dvd-residue n d v in_level).1 (dvd_trans d in_both parts.1))) in_level,
+      λ d in_both in_level. outer.2 d (inner.2 d ((dvd-residue n d u in_level).1 (dvd_trans d in_both parts.0))
+          ((dvd-residue n d v in_level).1 (dvd_trans d in_both parts.1))) in_level,
     )
 
 pub normal_form-least : (N : ℕ) (p q : Point) → 0 < N → SamePoint N p q → IsBelow N q → is_before q (normal_form N p) ≡ false
@@ -74,7 +75,8 @@ pub action_product : (N : ℕ) (p : Point) (m k : Matrix) → 0 < N → action N
 action_product zero p m k some = absurd (omega arith)
 action_product (suc n) p m k some = action-action n p m k
 
-pub image_number_product : (N k : ℕ) (m w : Matrix) → k < length (symbols N) → IsInvertible N m → image_number N (image_number N k m) w ≡ image_number N k (product m w)
+pub image_number_product : (N k : ℕ) (m w : Matrix) → k < length (symbols N) → IsInvertible N m
+    → image_number N (image_number N k m) w ≡ image_number N k (product m w)
 image_number_product zero k m w within unit = absurd (omega (arith, level_positive 0 k within))
 image_number_product (suc n) k m w within unit = image_number-image_number n k m w within unit
 
@@ -94,11 +96,13 @@ pub star_twice : (N k : ℕ) → k < length (symbols N) → image_number N (imag
 star_twice zero k within = absurd (omega (arith, level_positive 0 k within))
 star_twice (suc n) k within = image_number-star-star n k within
 
-pub star_s : (N k : ℕ) → k < length (symbols N) → image_number N (image_number N k matrix_star) matrix_s ≡ image_number N (image_number N k matrix_s) matrix_star
+pub star_s : (N k : ℕ) → k < length (symbols N) → image_number N (image_number N k matrix_star) matrix_s
+    ≡ image_number N (image_number N k matrix_s) matrix_star
 star_s zero k within = absurd (omega (arith, level_positive 0 k within))
 star_s (suc n) k within = image_number-star-s n k within
 
 pub star_t : (N k : ℕ) → k < length (symbols N) →
-    image_number N (image_number N (image_number N k matrix_star) matrix_t) matrix_star ≡ image_number N (image_number N (image_number N (image_number N k matrix_s) matrix_t) matrix_t) matrix_s
+    image_number N (image_number N (image_number N k matrix_star) matrix_t) matrix_star
+    ≡ image_number N (image_number N (image_number N (image_number N k matrix_s) matrix_t) matrix_t) matrix_s
 star_t zero k within = absurd (omega (arith, level_positive 0 k within))
 star_t (suc n) k within = image_number-star-t-star n k within

@@ -14,19 +14,22 @@ pub get-push_new : {X : Type 0} (xs : List X) (y : X) → slice_get (xs ++ y ∷
 get-push_new [] y = refl
 get-push_new (x ∷ xs) y = get-push_new xs y
 
-pub get-push_cases : {X : Type 0} (xs : List X) (y q : X) (k : ℕ) → slice_get (xs ++ y ∷ []) k ≡ Some q → (slice_get xs k ≡ Some q) ⊎ ((k ≡ length xs) × (y ≡ q))
+pub get-push_cases : {X : Type 0} (xs : List X) (y q : X) (k : ℕ) → slice_get (xs ++ y ∷ []) k ≡ Some q
+    → (slice_get xs k ≡ Some q) ⊎ ((k ≡ length xs) × (y ≡ q))
 get-push_cases [] y q zero e = inr (refl, same_Some y q e)
 get-push_cases [] y q (suc k) e = inl e
 get-push_cases (x ∷ xs) y q zero e = inl e
 get-push_cases (x ∷ xs) y q (suc k) e = elim (get-push_cases xs y q k e) [ inl h ↦ inl h | inr h ↦ inr (ap suc h.0, h.1) ]
 
-pub filter-range_more : (t : ℕ → Bool) (a n : ℕ) → filter t (range_with_len a (n + 1)) ≡ filter t (range_with_len a n) ++ cond (t (a + n)) ((a + n) ∷ []) []
+pub filter-range_more : (t : ℕ → Bool) (a n : ℕ) → filter t (range_with_len a (n + 1))
+    ≡ filter t (range_with_len a n) ++ cond (t (a + n)) ((a + n) ∷ []) []
 filter-range_more t a zero = let e : a + 0 ≡ a = omega arith in rw e refl
 filter-range_more t a (suc n) =
     let e : suc n + 1 ≡ suc (n + 1) = omega arith in
     let f : a + suc n ≡ a + 1 + n = omega arith in
     rw (e, f) (cond_both (t a) (a ∷ filter t (range_with_len (a + 1) (n + 1))) (filter t (range_with_len (a + 1) (n + 1)))
-    (λ zs. zs ≡ cond (t a) (a ∷ filter t (range_with_len (a + 1) n)) (filter t (range_with_len (a + 1) n)) ++ cond (t (a + 1 + n)) ((a + 1 + n) ∷ []) [])
+    (λ zs. zs ≡ cond (t a) (a ∷ filter t (range_with_len (a + 1) n)) (filter t (range_with_len (a + 1) n)) ++ cond (t (a + 1 + n)) ((a + 1 + n) ∷ [])
+    [])
     (λ h. rw h (ap (λ zs. a ∷ zs) (filter-range_more t (a + 1) n)))
     (λ h. rw h (filter-range_more t (a + 1) n)))
 
@@ -36,7 +39,8 @@ FoundAt xs s = (j : ℕ) × (j < length xs) × (get_or xs j 0 ≡ s)
 -- a number of the range that passes stands somewhere in the filtered list
 pub filter-range_finds : (t : ℕ → Bool) (a n s : ℕ) → a ≤ s → s < a + n → t s ≡ true → FoundAt (filter t (range_with_len a n)) s
 filter-range_finds t a zero s low high e = absurd (omega arith)
-filter-range_finds t a (suc n) s low high e = cond_both (t a) (a ∷ filter t (range_with_len (a + 1) n)) (filter t (range_with_len (a + 1) n)) (λ ys. FoundAt ys s)
+filter-range_finds t a (suc n) s low high e = cond_both (t a) (a ∷ filter t (range_with_len (a + 1) n)) (filter t (range_with_len (a + 1) n))
+    (λ ys. FoundAt ys s)
     (λ passes. elim (cases_eq a s) [
       | inl same ↦ (0, omega arith, same)
       | inr other ↦ let (j, l, h) = filter-range_finds t (a + 1) n s (omega arith) (omega arith) e in (suc j, omega arith, h)

@@ -21,12 +21,14 @@ use Rattle.p1_normal.proofs.UnitLists.{fixing_at, fixing_found}
 pub record Marked (N : ℕ) (p : Point) (number k : ℕ) (old new : List ℕ) : Type 0 where
   pub size : length new ≡ length old
   pub done : (j : ℕ) → j < k → slice_index new (place N (pair_multiple N (get_or (fixing N p.u) j 0) p)) ≡ number
-  pub others : (q : Point) → IsBelow N q → (slice_index new (place N q) ≡ slice_index old (place N q)) ⊎ ((slice_index new (place N q) ≡ number) × SamePoint N p q)
+  pub others : (q : Point) → IsBelow N q → (slice_index new (place N q) ≡ slice_index old (place N q))
+      ⊎ ((slice_index new (place N q) ≡ number) × SamePoint N p q)
 
 pub marked_none : (N : ℕ) (p : Point) (number : ℕ) (old : List ℕ) → Marked N p number 0 old old
 marked_none N p number old = record { size = refl; done = λ j l. absurd (omega arith); others = λ q below. inl refl }
 
-pub marked_more : (N : ℕ) (p : Point) (number k : ℕ) (old new : List ℕ) → 0 < N → length old ≡ N * N → k < length (fixing N p.u) → Marked N p number k old new →
+pub marked_more : (N : ℕ) (p : Point) (number k : ℕ) (old new : List ℕ) → 0 < N → length old ≡ N * N → k < length (fixing N p.u)
+    → Marked N p number k old new →
     Marked N p number (k + 1) old (set new (place N (pair_multiple N (get_or (fixing N p.u) k 0) p)) number)
 marked_more N p number k old new some size within h =
     let r : Point = pair_multiple N (get_or (fixing N p.u) k 0) p in
@@ -42,7 +44,12 @@ marked_more N p number k old new some size within h =
         ]
       ];
       others = λ q below. elim (cases_eq (place N q) (place N r)) [
-        | inl same ↦ inr (ap (λ i. slice_index (set new (place N r) number) i) same ∙ written new (place N r) inside, subst (SamePoint N p) (place_inj N r q r_below.second below.second (sym same)) (SamePoint-pair_multiple N (get_or (fixing N p.u) k 0) p (fixing_at N p.u k within)))
+        | inl same ↦ inr (
+          ap (λ i. slice_index (set new (place N r) number) i) same
+              ∙ written new (place N r) inside,
+          subst (SamePoint N p) (place_inj N r q r_below.second below.second (sym same))
+              (SamePoint-pair_multiple N (get_or (fixing N p.u) k 0) p (fixing_at N p.u k within)),
+        )
         | inr other ↦ elim (h.others q below) [
           | inl e ↦ inl (kept new (place N r) (place N q) other ∙ e)
           | inr e ↦ inr (kept new (place N r) (place N q) other ∙ e.0, e.1)
@@ -56,7 +63,8 @@ marked_more N p number k old new some size within h =
     kept : (xs : List ℕ) (i j : ℕ) → j ≢ i → slice_index (set xs i number) j ≡ slice_index xs j
     kept xs i j ne = get_or-set_other xs i j number 0 ne
 
-pub marked_all : (N : ℕ) (p : Point) (number : ℕ) (old new : List ℕ) → 0 < N → IsBelow N p → IsHead N p.u → Marked N p number (length (fixing N p.u)) old new → Marks N p number old new
+pub marked_all : (N : ℕ) (p : Point) (number : ℕ) (old new : List ℕ) → 0 < N → IsBelow N p → IsHead N p.u
+    → Marked N p number (length (fixing N p.u)) old new → Marks N p number old new
 marked_all N p number old new some below_p head_p h = record {
   size = h.size;
   named = λ q below head same.
@@ -70,7 +78,12 @@ marked_all N p number old new some below_p head_p h = record {
 -- there are at most N N symbols
 pub length-symbols : (N : ℕ) → length (symbols N) ≤ N * N
 unfolding symbols
-length-symbols N = omega (arith, length-filter_both (is_symbol N) (λ p. not (is_symbol N p)) (λ p. refl) (pairs N), ap length (pairs_are N), length-map-range_with_len (at N) 0 (N * N))
+length-symbols N = omega (
+  arith,
+  length-filter_both (is_symbol N) (λ p. not (is_symbol N p)) (λ p. refl) (pairs N),
+  ap length (pairs_are N),
+  length-map-range_with_len (at N) 0 (N * N),
+)
 
 pub small_square : (N : ℕ) → N ≤ MAX_LEVEL → N * N ≤ MAX_LEVEL * MAX_LEVEL
 small_square N h = mul-le-mul h h

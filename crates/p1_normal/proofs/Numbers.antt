@@ -31,9 +31,11 @@ pairs_rise N = subst (AllPairs (λ p q. place N p < place N q)) (sym (pairs_are 
 pub symbols_rise : (N j k : ℕ) (p q : Point) → IsNumber N j p → IsNumber N k q → j < k → place N p < place N q
 unfolding symbols
 symbols_rise N j k p q e f before =
-    let rising : AllPairs (λ p q. place N p < place N q) (symbols N) = AllPairs-filter (λ p q. place N p < place N q) (is_symbol N) (pairs N) (pairs_rise N) in
+    let rising : AllPairs (λ p q. place N p < place N q) (symbols N) =
+    AllPairs-filter (λ p q. place N p < place N q) (is_symbol N) (pairs N) (pairs_rise N) in
     subst (λ r. place N r < place N q) (get_or_from_slice_get (symbols N) j p p e)
-    (subst (λ r. place N (get_or (symbols N) j p) < place N r) (get_or_from_slice_get (symbols N) k q p f) (rising j k p before (slice_get_within (symbols N) k q f)))
+    (subst (λ r. place N (get_or (symbols N) j p) < place N r) (get_or_from_slice_get (symbols N) k q p f)
+    (rising j k p before (slice_get_within (symbols N) k q f)))
 
 -- a level with a symbol is not 0
 pub level_positive : (N k : ℕ) → k < length (symbols N) → 0 < N
@@ -82,13 +84,16 @@ symbol_stands N p some one =
     let below : IsBelow N q = IsBelow-normal_form N p some in
     let own : normal_form N q ≡ q = sym (normal_form-same N p q some (SamePoint-normal_form N p)) in
     let coprime : common_divisor N q ≡ 1 = sym (common_divisor-same (SamePoint-normal_form N p)) ∙ one in
-    StandsIn-filter (is_symbol N) (pairs N) q (place N q) (subst (λ ps. slice_get ps (place N q) ≡ Some q) (sym (pairs_are N)) (stands q below)) (symbol_from N q coprime own)
+    StandsIn-filter (is_symbol N) (pairs N) q (place N q) (subst (λ ps. slice_get ps (place N q) ≡ Some q) (sym (pairs_are N)) (stands q below))
+    (symbol_from N q coprime own)
   where
     stands : (q : Point) → IsBelow N q → slice_get (map (at N) (range_with_len 0 (N * N))) (place N q) ≡ Some q
     stands q below =
-        let within : place N q < length (map (at N) (range_with_len 0 (N * N))) = omega (arith, place-lt N q below, length-map-range_with_len (at N) 0 (N * N)) in
+        let within : place N q < length (map (at N) (range_with_len 0 (N * N))) =
+        omega (arith, place-lt N q below, length-map-range_with_len (at N) 0 (N * N)) in
         slice_get-get_or (map (at N) (range_with_len 0 (N * N))) (place N q) q within
-        ∙ ap Some (get_or-map-range_with_len (at N) 0 (N * N) (place N q) (place N q) q (place-lt N q below) (omega arith) ∙ at-place N q below.second)
+        ∙ ap Some (get_or-map-range_with_len (at N) 0 (N * N) (place N q) (place N q) q (place-lt N q below) (omega arith)
+        ∙ at-place N q below.second)
 
 pub IsNumber-number : (N : ℕ) (p : Point) → 0 < N → common_divisor N p ≡ 1 → IsNumber N (number N (normal_form N p)) (normal_form N p)
 IsNumber-number N p some one =

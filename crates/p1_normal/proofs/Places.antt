@@ -34,7 +34,8 @@ row_le a b N h = let e : (a + 1) * N ≤ b * N = mul-le-mul_right N (omega arith
 pub place-before : (N : ℕ) (p q : Point) → p.v < N → is_before p q ≡ true → place N p < place N q
 place-before N p q h e = elim (or_cases (nat_lt p.u q.u) (nat_eq p.u q.u && nat_lt p.v q.v) e) [
   | inl l ↦ omega (arith, row_le p.u q.u N (ltb-true p.u q.u l))
-  | inr w ↦ let (same, l) = and_parts (nat_eq p.u q.u) (nat_lt p.v q.v) w in omega (arith, ap (λ n. n * N) (eqb-true p.u q.u same), ltb-true p.v q.v l)
+  | inr w ↦ let (same, l) = and_parts (nat_eq p.u q.u) (nat_lt p.v q.v) w in omega
+      (arith, ap (λ n. n * N) (eqb-true p.u q.u same), ltb-true p.v q.v l)
 ]
 
 pub place-not_before : (N : ℕ) (p q : Point) → q.v < N → is_before p q ≡ false → place N q ≤ place N p
@@ -47,7 +48,8 @@ place-not_before N p q h e =
     ]
 
 pub place-earlier_left : (N : ℕ) (p q : Point) → p.v < N → q.v < N → place N (earlier p q) ≤ place N p
-place-earlier_left N p q g h = cond_both (is_before q p) q p (λ r. place N r ≤ place N p) (λ e. omega (arith, place-before N q p h e)) (λ e. omega arith)
+place-earlier_left N p q g h = cond_both (is_before q p) q p (λ r. place N r ≤ place N p) (λ e. omega (arith, place-before N q p h e))
+    (λ e. omega arith)
 
 pub place-earlier_right : (N : ℕ) (p q : Point) → p.v < N → q.v < N → place N (earlier p q) ≤ place N q
 place-earlier_right N p q g h = cond_both (is_before q p) q p (λ r. place N r ≤ place N q) (λ e. omega arith) (λ e. place-not_before N q p g e)
@@ -72,15 +74,18 @@ row_of_pairs N u b zero h = refl
 row_of_pairs N u b (suc n) h =
     let e : u * N + b + 1 ≡ u * N + (b + 1) = omega arith in
     let here : point u b ≡ at N (u * N + b) = sym (at-place N (point u b) (omega arith)) in
-    rw e (ap (λ p. p ∷ map (λ v. point u v) (range_with_len (b + 1) n)) here ∙ ap (λ ps. at N (u * N + b) ∷ ps) (row_of_pairs N u (b + 1) n (omega arith)))
+    rw e (ap (λ p. p ∷ map (λ v. point u v) (range_with_len (b + 1) n)) here
+    ∙ ap (λ ps. at N (u * N + b) ∷ ps) (row_of_pairs N u (b + 1) n (omega arith)))
 
-rows_of_pairs : (N a k : ℕ) → flat_map (λ u. map (λ v. point u v) (range_with_len 0 N)) (range_with_len a k) ≡ map (at N) (range_with_len (a * N) (k * N))
+rows_of_pairs : (N a k : ℕ) → flat_map (λ u. map (λ v. point u v) (range_with_len 0 N)) (range_with_len a k)
+    ≡ map (at N) (range_with_len (a * N) (k * N))
 rows_of_pairs N a zero = let e : 0 * N ≡ 0 = zero-mul N in rw e refl
 rows_of_pairs N a (suc k) =
     let e : suc k * N ≡ N + k * N = omega arith in
     let f : a * N + 0 ≡ a * N = omega arith in
     let g : a * N + N ≡ (a + 1) * N = omega arith in
-    rw e (ap (λ ps. ps ++ flat_map (λ u. map (λ v. point u v) (range_with_len 0 N)) (range_with_len (a + 1) k)) (row_of_pairs N a 0 N (omega arith) ∙ ap (λ n. map (at N) (range_with_len n N)) f)
+    rw e (ap (λ ps. ps ++ flat_map (λ u. map (λ v. point u v) (range_with_len 0 N)) (range_with_len (a + 1) k))
+    (row_of_pairs N a 0 N (omega arith) ∙ ap (λ n. map (at N) (range_with_len n N)) f)
     ∙ ap (λ ps. map (at N) (range_with_len (a * N) N) ++ ps) (rows_of_pairs N (a + 1) k ∙ ap (λ n. map (at N) (range_with_len n (k * N))) (sym g))
     ∙ sym (map-append (at N) (range_with_len (a * N) N) (range_with_len (a * N + N) (k * N)))
     ∙ ap (map (at N)) (sym (range-append (a * N) N (k * N))))

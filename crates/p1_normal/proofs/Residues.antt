@@ -53,8 +53,10 @@ residue-mul n (negsuc a) (pos b) =
     opposite n (suc a * b) ∙ ap (λ i. i % suc n) e ∙ mul-mod (suc a * n) b (suc n) ∙ ap (λ i. (i * (b % suc n)) % suc n) (sym (minus n a))
 residue-mul n (negsuc a) (negsuc b) =
     let e : suc a * suc b + suc n * (suc a * suc b * suc n) ≡ suc a * n * (suc b * n) + suc n * (2 * (suc a * suc b)) = squares n (suc a) (suc b) in
-    sym (add-mul-mod_self_left (suc a * suc b) (suc n) (suc a * suc b * suc n)) ∙ ap (λ i. i % suc n) e ∙ add-mul-mod_self_left (suc a * n * (suc b * n)) (suc n) (2 * (suc a * suc b))
-    ∙ mul-mod (suc a * n) (suc b * n) (suc n) ∙ ap (λ i. (i * ((suc b * n) % suc n)) % suc n) (sym (minus n a)) ∙ ap (λ i. (residue_of (suc n) (negsuc a) * i) % suc n) (sym (minus n b))
+    sym (add-mul-mod_self_left (suc a * suc b) (suc n) (suc a * suc b * suc n)) ∙ ap (λ i. i % suc n) e
+    ∙ add-mul-mod_self_left (suc a * n * (suc b * n)) (suc n) (2 * (suc a * suc b))
+    ∙ mul-mod (suc a * n) (suc b * n) (suc n) ∙ ap (λ i. (i * ((suc b * n) % suc n)) % suc n) (sym (minus n a))
+    ∙ ap (λ i. (residue_of (suc n) (negsuc a) * i) % suc n) (sym (minus n b))
   where
     squares : (n a b : ℕ) → a * b + suc n * (a * b * suc n) ≡ a * n * (b * n) + suc n * (2 * (a * b))
     squares n a b = omega arith
@@ -84,16 +86,20 @@ whole z h = to_z-of_z w32 z (fits_signed_from_abs w32 z (omega arith))
 wide : (z : ℤ) → unsigned_abs z ≤ 2 * (MAX_LEVEL * MAX_ENTRY) → cast_signed w32 (cast_unsigned w32 z) ≡ z
 wide z h = to_z-of_z w32 z (fits_signed_from_abs w32 z (omega arith))
 
-abs_sum : (s t : ℤ) → unsigned_abs s ≤ MAX_LEVEL * MAX_ENTRY → unsigned_abs t ≤ MAX_LEVEL * MAX_ENTRY → unsigned_abs (s +ℤ t) ≤ 2 * (MAX_LEVEL * MAX_ENTRY)
+abs_sum : (s t : ℤ) → unsigned_abs s ≤ MAX_LEVEL * MAX_ENTRY → unsigned_abs t ≤ MAX_LEVEL * MAX_ENTRY
+    → unsigned_abs (s +ℤ t) ≤ 2 * (MAX_LEVEL * MAX_ENTRY)
 abs_sum s t g h = omega (arith, ints)
 
 pub residue-lt : (n : ℕ) (z : ℤ) → residue_of (suc n) z < suc n
-residue-lt n z = let a = natural n z in subst (λ i. i < suc n) (sym (residue_is (suc n) a.turns a.value z (omega arith) a.same)) (mod-lt a.value (omega arith))
+residue-lt n z = let a = natural n z in subst (λ i. i < suc n) (sym (residue_is (suc n) a.turns a.value z (omega arith) a.same))
+    (mod-lt a.value (omega arith))
 
 -- what the code computes for u x + v y
-pub part_value : (N u v : ℕ) (x y s t r : ℤ) → 0 < N → N ≤ MAX_LEVEL → unsigned_abs x ≤ MAX_ENTRY → unsigned_abs y ≤ MAX_ENTRY → unsigned_abs s ≤ MAX_LEVEL * MAX_ENTRY → unsigned_abs t ≤ MAX_LEVEL * MAX_ENTRY →
+pub part_value : (N u v : ℕ) (x y s t r : ℤ) → 0 < N → N ≤ MAX_LEVEL → unsigned_abs x ≤ MAX_ENTRY → unsigned_abs y ≤ MAX_ENTRY
+    → unsigned_abs s ≤ MAX_LEVEL * MAX_ENTRY → unsigned_abs t ≤ MAX_LEVEL * MAX_ENTRY →
     s ≡ pos u *ℤ cast_signed w32 (cast_unsigned w32 x) → t ≡ pos v *ℤ cast_signed w32 (cast_unsigned w32 y) →
-    r ≡ int_rem_euclid (cast_signed w32 (cast_unsigned w32 (cast_signed w32 (cast_unsigned w32 s) +ℤ cast_signed w32 (cast_unsigned w32 t)))) (cast_signed w32 N) →
+    r ≡ int_rem_euclid (cast_signed w32 (cast_unsigned w32 (cast_signed w32 (cast_unsigned w32 s) +ℤ cast_signed w32 (cast_unsigned w32 t))))
+    (cast_signed w32 N) →
     unsigned_abs (cast_signed w32 (cast_unsigned w32 r)) ≡ residue_of N (pos u *ℤ x +ℤ pos v *ℤ y)
 part_value zero u v x y s t r some small hx hy hs ht es et e = absurd (omega arith)
 part_value (suc n) u v x y s t r some small hx hy hs ht es et e =

@@ -44,7 +44,7 @@ pub SamePoint-pair_multiple : (N s : ℕ) (p : Point) → IsUnit N s → SamePoi
 SamePoint-pair_multiple N s p h = record { factor = s; unit = h; first = sym (mod-mod (s * p.u) N); second = sym (mod-mod (s * p.v) N) }
 
 -- a common divisor with N of one pair divides the other
-across : (N s u w d : ℕ) → (s * u) % N ≡ w % N → d ∣ N → d ∣ u → d ∣ w
+pub across : (N s u w d : ℕ) → (s * u) % N ≡ w % N → d ∣ N → d ∣ u → d ∣ w
 across N s u w d e divides h = (dvd-mod_iff d divides).0 (subst (λ x. d ∣ x) e ((dvd-mod_iff d divides).1 (dvd-mul_left_of_dvd d h s)))
 
 common_divisor-dvd : {N : ℕ} {p q : Point} → SamePoint N p q → common_divisor N p ∣ common_divisor N q
@@ -54,7 +54,8 @@ common_divisor-dvd {N} {p} {q} h =
     let pair = IsGcd-gcd p.u p.v in
     let in_u : d ∣ p.u = dvd_trans d whole.0 pair.0 in
     let in_v : d ∣ p.v = dvd_trans d whole.0 pair.1 in
-    (IsGcd-gcd (gcd q.u q.v) N).2 d ((IsGcd-gcd q.u q.v).2 d (across N h.factor p.u q.u d h.first whole.1 in_u) (across N h.factor p.v q.v d h.second whole.1 in_v)) whole.1
+    (IsGcd-gcd (gcd q.u q.v) N).2 d ((IsGcd-gcd q.u q.v).2 d (across N h.factor p.u q.u d h.first whole.1 in_u)
+    (across N h.factor p.v q.v d h.second whole.1 in_v)) whole.1
 
 -- two names of one point have the same common divisor with N
 pub common_divisor-same : {N : ℕ} {p q : Point} → SamePoint N p q → common_divisor N p ≡ common_divisor N q

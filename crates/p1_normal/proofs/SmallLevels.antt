@@ -21,6 +21,7 @@ pub symbols-eleven : symbols 11 ≡ point 0 1 ∷ map (point 1) (range_with_len 
 unfolding symbols is_symbol normal_form gcd
 symbols-eleven = refl
 
-pub symbols-twelve : symbols 12 ≡ point 0 1 ∷ map (point 1) (range_with_len 0 12) ++ point 2 1 ∷ point 2 3 ∷ point 2 5 ∷ point 3 1 ∷ point 3 2 ∷ point 3 4 ∷ point 3 7 ∷ point 4 1 ∷ point 4 3 ∷ point 4 5 ∷ point 6 1 ∷ []
+pub symbols-twelve : symbols 12 ≡ point 0 1 ∷ map (point 1) (range_with_len 0 12) ++ point 2 1 ∷ point 2 3 ∷ point 2 5 ∷ point 3 1 ∷ point 3 2 ∷ point
+    3 4 ∷ point 3 7 ∷ point 4 1 ∷ point 4 3 ∷ point 4 5 ∷ point 6 1 ∷ []
 unfolding symbols is_symbol normal_form gcd
 symbols-twelve = refl

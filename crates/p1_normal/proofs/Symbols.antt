@@ -29,7 +29,13 @@ pub symbol_is : (N k : ℕ) (p : Point) → 0 < N → slice_get (symbols N) k �
 unfolding symbols
 symbol_is N k p some e =
     let (one, same) = symbol_parts N p (All-at (λ q. is_symbol N q ≡ true) (symbols N) k p (filter_passes (is_symbol N) (pairs N)) e) in
-    record { below = All-at (IsBelow N) (symbols N) k p (All-filter (is_symbol N) (IsBelow N) (pairs N) (subst (All (IsBelow N)) (sym (pairs_are N)) (All-map (IsBelow N) (at N) (range_with_len 0 (N * N)) (All-from_get_or (λ x. IsBelow N (at N x)) (range_with_len 0 (N * N)) 0 in_range)))) e; coprime = one; own = same }
+    record {
+      below = All-at (IsBelow N) (symbols N) k p (All-filter (is_symbol N) (IsBelow N) (pairs N)
+          (subst (All (IsBelow N)) (sym (pairs_are N)) (All-map (IsBelow N) (at N) (range_with_len 0 (N * N))
+          (All-from_get_or (λ x. IsBelow N (at N x)) (range_with_len 0 (N * N)) 0 in_range)))) e;
+      coprime = one;
+      own = same;
+    }
   where
     in_range : (i : ℕ) → i < length (range_with_len 0 (N * N)) → IsBelow N (at N (get_or (range_with_len 0 (N * N)) i 0))
     in_range i h = let small : i < N * N = omega (arith, length-range_with_len 0 (N * N)) in
@@ -43,6 +49,7 @@ pub symbol_unique : (N j k : ℕ) (p q : Point) → 0 < N → slice_get (symbols
 symbol_unique N j k p q some e f same = sym (symbol_is N j p some e).own ∙ normal_form-same N p q some same ∙ (symbol_is N k q some f).own
 
 -- `common_divisor-image` at a positive N
-pub image_coprime : (N : ℕ) (p : Point) (m : Matrix) → 0 < N → gcd (residue_of N (determinant m)) N ≡ 1 → common_divisor N p ≡ 1 → common_divisor N (image N p m) ≡ 1
+pub image_coprime : (N : ℕ) (p : Point) (m : Matrix) → 0 < N → gcd (residue_of N (determinant m)) N ≡ 1 → common_divisor N p ≡ 1
+    → common_divisor N (image N p m) ≡ 1
 image_coprime zero p m some e one = absurd (omega arith)
 image_coprime (suc n) p m some e one = common_divisor-image n p m e one

@@ -33,7 +33,8 @@ turn_none N u turn some within e f = record {
   least = λ j l. absurd (omega arith);
 }
 
-least_more : (N u k head : ℕ) → ((j : ℕ) → j < k → head ≤ (get_or (units N) j 0 * u) % N) → head ≤ (get_or (units N) k 0 * u) % N → (j : ℕ) → j < k + 1 → head ≤ (get_or (units N) j 0 * u) % N
+least_more : (N u k head : ℕ) → ((j : ℕ) → j < k → head ≤ (get_or (units N) j 0 * u) % N) → head ≤ (get_or (units N) k 0 * u) % N → (j : ℕ)
+    → j < k + 1 → head ≤ (get_or (units N) j 0 * u) % N
 least_more N u k head before here j l = elim (cases_eq j k) [
   | inl same ↦ subst (λ i. head ≤ (get_or (units N) i 0 * u) % N) (sym same) here
   | inr other ↦ before j (omega arith)
@@ -42,7 +43,8 @@ least_more N u k head before here j l = elim (cases_eq j k) [
 pub turn_kept : (N u k : ℕ) (turn : Turn) → turn.head ≤ (get_or (units N) k 0 * u) % N → TurnSoFar N u k turn → TurnSoFar N u (k + 1) turn
 turn_kept N u k turn le h = record { unit = h.unit; small = h.small; turned = h.turned; least = least_more N u k turn.head h.least le }
 
-pub turn_changed : (N u k : ℕ) (turn new : Turn) → k < length (units N) → new.factor ≡ get_or (units N) k 0 → new.head ≡ (get_or (units N) k 0 * u) % N → new.head ≤ turn.head → TurnSoFar N u k turn → TurnSoFar N u (k + 1) new
+pub turn_changed : (N u k : ℕ) (turn new : Turn) → k < length (units N) → new.factor ≡ get_or (units N) k 0
+    → new.head ≡ (get_or (units N) k 0 * u) % N → new.head ≤ turn.head → TurnSoFar N u k turn → TurnSoFar N u (k + 1) new
 turn_changed N u k turn new within e f le h = record {
   unit = subst (IsUnit N) (sym e) (unit_at N k within);
   small = let l = unit_below N k within in omega arith;
@@ -66,7 +68,8 @@ turn_all N u turn some h = record {
 -- a head is turned into itself
 pub turn_own : (N u : ℕ) (turn : Turn) → u < N → IsTurn N u turn → IsHead N u → turn.head ≡ u
 turn_own N u turn within h head =
-    let back : (h.unit.inverse * turn.head) % N ≡ u = undone N turn.factor h.unit.inverse u turn.head h.unit.gives_one (h.turned ∙ whole) ∙ mod-eq_of_lt within in
+    let back : (h.unit.inverse * turn.head) % N ≡ u = undone N turn.factor h.unit.inverse u turn.head h.unit.gives_one (h.turned ∙ whole)
+    ∙ mod-eq_of_lt within in
     omega (arith, head.least turn.factor h.unit, h.head.least h.unit.inverse (IsUnit-inverse N turn.factor h.unit), h.turned)
   where
     whole : turn.head ≡ turn.head % N
@@ -80,7 +83,8 @@ pub record AreTurnsBelow (N k : ℕ) (turns : List Turn) : Type 0 where
 pub turns_none : (N : ℕ) → AreTurnsBelow N 0 []
 turns_none N = record { size = refl; each = λ u turn e. absurd (none-some turn e) }
 
-pub turns_more : (N k : ℕ) (turns : List Turn) (turn : Turn) → AreTurnsBelow N k turns → IsTurn N k turn → AreTurnsBelow N (k + 1) (turns ++ turn ∷ [])
+pub turns_more : (N k : ℕ) (turns : List Turn) (turn : Turn) → AreTurnsBelow N k turns → IsTurn N k turn
+    → AreTurnsBelow N (k + 1) (turns ++ turn ∷ [])
 turns_more N k turns turn h is = record {
   size = omega (arith, length-append turns (turn ∷ []), h.size);
   each = λ u t e. elim (get-push_cases turns turn t u e) [
@@ -90,22 +94,27 @@ turns_more N k turns turn h is = record {
 }
 
 -- the symbol that a turned pair names is that of the pair
-pub turned_number : {N : ℕ} {numbers : List ℕ} {turn : Turn} (p : Point) (k : ℕ) → 0 < N → IsBelow N p → IsTurn N p.u turn → IsNumbering N numbers → slice_index numbers (turn.head * N + (turn.factor * p.v) % N) ≡ suc k →
+pub turned_number : {N : ℕ} {numbers : List ℕ} {turn : Turn} (p : Point) (k : ℕ) → 0 < N → IsBelow N p → IsTurn N p.u turn → IsNumbering N numbers
+    → slice_index numbers (turn.head * N + (turn.factor * p.v) % N) ≡ suc k →
     (common_divisor N p ≡ 1) × IsNumber N k (normal_form N p)
 turned_number {N} {numbers} {turn} p k some below h table e =
     let q : Point = pair_multiple N turn.factor p in
     let same : SamePoint N p q = SamePoint-pair_multiple N turn.factor p h.unit in
-    let (one, stands) = table.some q k (IsBelow-pair_multiple N turn.factor p some) (subst (IsHead N) (sym h.turned) h.head) (ap (λ u. slice_index numbers (u * N + (turn.factor * p.v) % N)) h.turned ∙ e) in
+    let (one, stands) = table.some q k (IsBelow-pair_multiple N turn.factor p some) (subst (IsHead N) (sym h.turned) h.head)
+    (ap (λ u. slice_index numbers (u * N + (turn.factor * p.v) % N)) h.turned ∙ e) in
     (common_divisor-same same ∙ one, stands ∙ ap Some (sym (normal_form-same N p q some same)))
 
-pub turned_none : {N : ℕ} {numbers : List ℕ} {turn : Turn} (p : Point) → 0 < N → IsBelow N p → IsTurn N p.u turn → IsNumbering N numbers → slice_index numbers (turn.head * N + (turn.factor * p.v) % N) ≡ 0 → common_divisor N p ≢ 1
+pub turned_none : {N : ℕ} {numbers : List ℕ} {turn : Turn} (p : Point) → 0 < N → IsBelow N p → IsTurn N p.u turn → IsNumbering N numbers
+    → slice_index numbers (turn.head * N + (turn.factor * p.v) % N) ≡ 0 → common_divisor N p ≢ 1
 turned_none {N} {numbers} {turn} p some below h table e one =
     let q : Point = pair_multiple N turn.factor p in
     let same : SamePoint N p q = SamePoint-pair_multiple N turn.factor p h.unit in
-    table.none q (IsBelow-pair_multiple N turn.factor p some) (subst (IsHead N) (sym h.turned) h.head) (ap (λ u. slice_index numbers (u * N + (turn.factor * p.v) % N)) h.turned ∙ e) (sym (common_divisor-same same) ∙ one)
+    table.none q (IsBelow-pair_multiple N turn.factor p some) (subst (IsHead N) (sym h.turned) h.head)
+    (ap (λ u. slice_index numbers (u * N + (turn.factor * p.v) % N)) h.turned ∙ e) (sym (common_divisor-same same) ∙ one)
 
 pub turn_at : {N : ℕ} {turns : List Turn} (u : ℕ) (d : Turn) → AreTurns N turns → u < N → IsTurn N u (get_or turns u d)
 turn_at {N} {turns} u d h within = h.each u (get_or turns u d) (slice_get-get_or turns u d (let e = h.size in omega arith))
 
 pub turned_place : {N : ℕ} {turn : Turn} (u v : ℕ) → 0 < N → IsTurn N u turn → turn.head * N + (turn.factor * v) % N < N * N
-turned_place {N} {turn} u v some h = mul-add-lt turn.head N ((turn.factor * v) % N) N (subst (λ n. n < N) h.turned (mod-lt (turn.factor * u) some)) (mod-lt (turn.factor * v) some)
+turned_place {N} {turn} u v some h = mul-add-lt turn.head N ((turn.factor * v) % N) N (subst (λ n. n < N) h.turned (mod-lt (turn.factor * u) some))
+    (mod-lt (turn.factor * v) some)

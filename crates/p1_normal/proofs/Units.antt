@@ -78,7 +78,11 @@ pub record IsMultiple (N s d : ℕ) : Type 0 where
 
 -- multiples leave multiples as remainders: a % b is a + (N - 1) (a / b) b
 IsMultiple-mod : (n s a b : ℕ) → IsMultiple (suc n) s a → IsMultiple (suc n) s b → IsMultiple (suc n) s (a % b)
-IsMultiple-mod n s a b x y = record { factor = x.factor + n * (a / b) * y.factor; same = step s x.factor y.factor (a / b) (a % b) x.same y.same (div-add-mod a b) }
+IsMultiple-mod n s a b x y = record {
+  factor = x.factor + n * (a / b) * y.factor;
+  same =
+      step s x.factor y.factor (a / b) (a % b) x.same y.same (div-add-mod a b);
+}
   where
     step : (s f g q r : ℕ) → (s * f) % suc n ≡ a % suc n → (s * g) % suc n ≡ b % suc n → b * q + r ≡ a → (s * (f + n * q * g)) % suc n ≡ r % suc n
     step s f g q r e h split =
@@ -88,7 +92,8 @@ IsMultiple-mod n s a b x y = record { factor = x.factor + n * (a / b) * y.factor
         ∙ sym (mod-add-mod (s * f) (suc n) (n * q * (s * g)))
         ∙ ap (λ x. (x + n * q * (s * g)) % suc n) e
         ∙ sym (add-mod-mod (a % suc n) (n * q * (s * g)) (suc n))
-        ∙ ap (λ x. (a % suc n + x) % suc n) (sym (mul-mod_second (n * q) (s * g) (suc n)) ∙ ap (λ x. (n * q * x) % suc n) h ∙ mul-mod_second (n * q) b (suc n))
+        ∙ ap (λ x. (a % suc n + x) % suc n) (sym (mul-mod_second (n * q) (s * g) (suc n)) ∙ ap (λ x. (n * q * x) % suc n) h
+        ∙ mul-mod_second (n * q) b (suc n))
         ∙ add-mod-mod (a % suc n) (n * q * b) (suc n)
         ∙ mod-add-mod a (suc n) (n * q * b)
         ∙ ap (λ x. x % suc n) turned
@@ -102,7 +107,9 @@ IsMultiple-gcd_within n s (suc steps) a (suc b) x y = IsMultiple-gcd_within n s 
 
 -- Bezout: the greatest common divisor of s and N is a multiple of s modulo N
 pub IsMultiple-gcd : (n s : ℕ) → IsMultiple (suc n) s (gcd s (suc n))
-IsMultiple-gcd n s = subst (IsMultiple (suc n) s) (sym (gcd-gcd_within s (suc n))) (IsMultiple-gcd_within n s (suc (suc n)) s (suc n) (record { factor = 1; same = ap (λ x. x % suc n) (omega arith) }) (record { factor = suc n; same = mul-mod_left s (suc n) ∙ sym (mod_self (suc n)) }))
+IsMultiple-gcd n s = subst (IsMultiple (suc n) s) (sym (gcd-gcd_within s (suc n)))
+    (IsMultiple-gcd_within n s (suc (suc n)) s (suc n) (record { factor = 1; same = ap (λ x. x % suc n) (omega arith) })
+    (record { factor = suc n; same = mul-mod_left s (suc n) ∙ sym (mod_self (suc n)) }))
 
 -- a number coprime to N is a unit
 pub IsUnit-from_gcd : (N s : ℕ) → 0 < N → gcd s N ≡ 1 → IsUnit N s
@@ -129,7 +136,8 @@ IsUnit-mul N s t x y = record { inverse = x.inverse * y.inverse; gives_one = ste
     step : (f g : ℕ) → (s * f) % N ≡ 1 % N → (t * g) % N ≡ 1 % N → (s * t * (f * g)) % N ≡ 1 % N
     step f g e h =
         let turned : s * t * (f * g) ≡ s * f * (t * g) = omega arith in
-        ap (λ x. x % N) turned ∙ sym (mul-mod_first (s * f) (t * g) N) ∙ ap (λ x. (x * (t * g)) % N) e ∙ mul-mod_first 1 (t * g) N ∙ ap (λ x. x % N) (omega arith) ∙ h
+        ap (λ x. x % N) turned ∙ sym (mul-mod_first (s * f) (t * g) N) ∙ ap (λ x. (x * (t * g)) % N) e ∙ mul-mod_first 1 (t * g) N
+        ∙ ap (λ x. x % N) (omega arith) ∙ h
 
 pub IsUnit-inverse : (N s : ℕ) (h : IsUnit N s) → IsUnit N h.inverse
 IsUnit-inverse N s h = record { inverse = s; gives_one = ap (λ x. x % N) (omega arith) ∙ h.gives_one }

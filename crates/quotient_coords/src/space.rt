@@ -10,7 +10,7 @@ ghost use Rattle.quotient_coords.specs.Quotient.{HasCoordinates, HasKeptCoeffici
 use crate::certificate::{Certificate, adds_up, is_in_range};
 use crate::coordinates::lifted_terms;
 use crate::free_symbols::places_without_pivot;
-use crate::symbol_table::{combined, symbol_rows};
+use crate::symbol_table::{combination_of_rows, symbol_rows};
 use field_table::{Combo, Field, OutOfMemory, PlaceTable, Residues};
 use manin_relations::Relations;
 use p1_normal::Level;
@@ -111,7 +111,7 @@ impl Space {
         requires residues { HasResidues self.now.characteristic combo.now }
         ensures { IfOk result (HasCoordinates self.now combo.now) }
     {
-        Ok(Residues::of(combined(
+        Ok(Residues::of(combination_of_rows(
             alloc,
             self.field,
             self.rows.as_slice(),

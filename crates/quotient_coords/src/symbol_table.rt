@@ -78,7 +78,7 @@ fn add_rows(field: Field, rows: &[Combo], terms: &[(u32, u32)], values: &mut [u3
 }
 
 /// The combination of the rows with these terms, as a list of numbers.
-pub fn combined(
+pub fn combination_of_rows(
     alloc: Global,
     field: Field,
     rows: &[Combo],

@@ -2,32 +2,19 @@
 use Rattle.std.proofs.Common.{◌≡◌, ◌⊎◌, ℕ, Bool, true, false, List, [], ◌∷◌, ◌++◌, nat_eq, ◌&&◌, ◌||◌, refl, sym, ◌∙◌, ap, subst, inl, inr}
 use Rattle.std.specs.Set.{is_member}
 use Rattle.std.specs.Cmp.{IsEquivalence, and_equiv, on_equiv, nat_eq_equiv}
-use Rattle.std.proofs.lemmas.Bool.{true≢false, eqb-true}
+use Rattle.std.proofs.lemmas.Bool.{true≢false, eqb-true, or_cases, or_left, or_right}
 use Rattle.std.proofs.lemmas.List.Folds.{list_any-append}
 use Rattle.session_core.specs.Demands.{is_pair, Has, HasAll, Adds}
 
--- one of two tests passes
-either : (a b : Bool) → (a || b) ≡ true → (a ≡ true) ⊎ (b ≡ true)
-either true b e = inl refl
-either false b e = inr e
-
--- what passes passes beside another test
-first_passes : (a b : Bool) → a ≡ true → (a || b) ≡ true
-first_passes a b e = ap (λ t. t || b) e
-
-second_passes : (a b : Bool) → b ≡ true → (a || b) ≡ true
-second_passes true b e = refl
-second_passes false b e = e
-
--- two lists hold what either holds
+-- two lists hold what or_cases holds
 pub Has-append_left : (xs ys : List (ℕ × ℕ)) (q : ℕ × ℕ) → Has xs q → Has (xs ++ ys) q
-Has-append_left xs ys q h = list_any-append (is_pair q) xs ys ∙ first_passes (is_member is_pair xs q) (is_member is_pair ys q) h
+Has-append_left xs ys q h = list_any-append (is_pair q) xs ys ∙ or_left (is_member is_pair xs q) (is_member is_pair ys q) h
 
 pub Has-append_right : (xs ys : List (ℕ × ℕ)) (q : ℕ × ℕ) → Has ys q → Has (xs ++ ys) q
-Has-append_right xs ys q h = list_any-append (is_pair q) xs ys ∙ second_passes (is_member is_pair xs q) (is_member is_pair ys q) h
+Has-append_right xs ys q h = list_any-append (is_pair q) xs ys ∙ or_right (is_member is_pair xs q) (is_member is_pair ys q) h
 
 pub Has-from_append : (xs ys : List (ℕ × ℕ)) (q : ℕ × ℕ) → Has (xs ++ ys) q → Has xs q ⊎ Has ys q
-Has-from_append xs ys q h = either (is_member is_pair xs q) (is_member is_pair ys q) (sym (list_any-append (is_pair q) xs ys) ∙ h)
+Has-from_append xs ys q h = or_cases (is_member is_pair xs q) (is_member is_pair ys q) (sym (list_any-append (is_pair q) xs ys) ∙ h)
 
 -- nothing is in no list
 pub Has-nil : (q : ℕ × ℕ) → Has [] q → ⊥
@@ -55,7 +42,7 @@ Has-one k q h = is_pair-eq q k (only (is_pair q k) h)
     only false e = e
 
 pub Has-it : (k : ℕ × ℕ) → Has (k ∷ []) k
-Has-it k = first_passes (is_pair k k) false (is_pair-equivalence.refl k)
+Has-it k = or_left (is_pair k k) false (is_pair-equivalence.refl k)
 
 -- a table that stays adds of any pairs
 pub Adds_refl : (pairs xs : List (ℕ × ℕ)) → Adds pairs xs xs

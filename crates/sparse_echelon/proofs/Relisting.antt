@@ -29,12 +29,13 @@ pub occurrences_kept : (p k : ℕ) → 0 < p → (basis : List (List (ℕ × ℕ
     → IsAt after r (length basis) → ((q j : ℕ) → Contains (get_or cleared q []) j → Contains (get_or after q []) j)
     → (AreBelow (length basis + 1) cleared → AreBelow (length basis + 1) after) → length after ≡ length occurrences
     → AreOccurrences p (new ++ r ∷ []) (record { width = l.width; places = l.places ++ k ∷ [] }) after
-occurrences_kept p k positive basis l occurrences h many r combo one apart beyond new cleared after sized rows listed grows below at grown bounded width = record {
-  width = width ∙ h.width;
-  below = subst (λ n. AreBelow n after) (sym longer) (bounded (wider
-      (below (All-set (All (λ j. j < length basis)) occurrences k [] (All-nil (λ j. j < length basis)) h.below))));
-  all = λ j q u some other. by_row j q (cases_lt j (length basis)) u some other;
-}
+occurrences_kept p k positive basis l occurrences h many r combo one apart beyond new cleared after sized rows listed grows below at grown bounded
+    width = record {
+      width = width ∙ h.width;
+      below = subst (λ n. AreBelow n after) (sym longer) (bounded (wider
+          (below (All-set (All (λ j. j < length basis)) occurrences k [] (All-nil (λ j. j < length basis)) h.below))));
+      all = λ j q u some other. by_row j q (cases_lt j (length basis)) u some other;
+    }
   where
     longer : length (new ++ r ∷ []) ≡ length basis + 1
     longer = length-append new (r ∷ []) ∙ ap (λ n. n + 1) sized

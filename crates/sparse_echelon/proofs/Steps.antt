@@ -100,27 +100,28 @@ pub stored_kept : (s : System) → IsPrime s.characteristic → (n : ℕ) (basis
     → ((j : ℕ) → j < length basis → sparse s.characteristic (get_or newlogs j []) ≡ sparse s.characteristic (get_or logs j []) ⊞
     (opposite (sparse s.characteristic (get_or basis j []) k) ⊡ sparse s.characteristic t))
     → IsStored s (n + 1) (new ++ r ∷ []) (newlogs ++ t ∷ []) (record { width = l.width; places = l.places ++ k ∷ [] }) (kept ++ n ∷ [])
-stored_kept s prime n basis logs l kept h within left k inverse is_left one beyond r t is_r is_t r_sized t_sized r_residues t_residues new newlogs sized logs_sized rows log_rows old logs_old = record {
-  eliminated = eliminated_kept prime (vectors s) n (sparse_rows p basis) (sparse_rows p logs) (lead l) kept h.eliminated
-      (omega (arith, length-map s.rows (sparse p)))
-      k (residue p inverse) inverted (λ i u. sym (ap (λ v. v i) left_is) ∙ beyond i u)
-      (sparse p r) (sparse p t) (is_r ∙ ap (λ v. residue p inverse ⊡ v) left_is)
-      (is_t ∙ ap (λ v. residue p inverse ⊡ minus (unit n) (combination (at_leads l v) (sparse_rows p logs))) (sym (given_row s n within)))
-      (sparse_rows p (new ++ r ∷ [])) (sparse_rows p (newlogs ++ t ∷ [])) (lead (record { width = l.width; places = l.places ++ k ∷ [] }))
-      (omega (arith, length-sparse_rows p (new ++ r ∷ []), length-append new (r ∷ []), length-sparse_rows p basis))
-      (λ j u. row_old j (omega (arith, length-sparse_rows p basis)))
-      (last-sparse_rows-push p new r (length (sparse_rows p basis)) (omega (arith, length-sparse_rows p basis)))
-      (omega (arith, length-sparse_rows p (newlogs ++ t ∷ []), length-append newlogs (t ∷ []), length-sparse_rows p basis, many_logs))
-      (λ j u. log_old j (omega (arith, length-sparse_rows p basis)))
-      (last-sparse_rows-push p newlogs t (length (sparse_rows p basis)) (omega (arith, length-sparse_rows p basis, many_logs)))
-      (λ j u. lead_before l k l.width j (omega (arith, length-sparse_rows p basis, h.many)))
-      (get_or_push l.places k 0 (length (sparse_rows p basis)) (omega (arith, length-sparse_rows p basis, h.many)));
-  width = h.width;
-  many = omega (arith, length-append l.places (k ∷ []), length-append new (r ∷ []), h.many);
-  basis_rows = AreRows-push p s.width new r rows r_sized r_residues;
-  log_rows = AreRows-push p (length s.rows) newlogs t log_rows t_sized t_residues;
-  few = omega (arith, length-append kept (n ∷ []), h.few);
-}
+stored_kept s prime n basis logs l kept h within left k inverse is_left one beyond r t is_r is_t r_sized t_sized r_residues t_residues new newlogs
+    sized logs_sized rows log_rows old logs_old = record {
+      eliminated = eliminated_kept prime (vectors s) n (sparse_rows p basis) (sparse_rows p logs) (lead l) kept h.eliminated
+          (omega (arith, length-map s.rows (sparse p)))
+          k (residue p inverse) inverted (λ i u. sym (ap (λ v. v i) left_is) ∙ beyond i u)
+          (sparse p r) (sparse p t) (is_r ∙ ap (λ v. residue p inverse ⊡ v) left_is)
+          (is_t ∙ ap (λ v. residue p inverse ⊡ minus (unit n) (combination (at_leads l v) (sparse_rows p logs))) (sym (given_row s n within)))
+          (sparse_rows p (new ++ r ∷ [])) (sparse_rows p (newlogs ++ t ∷ [])) (lead (record { width = l.width; places = l.places ++ k ∷ [] }))
+          (omega (arith, length-sparse_rows p (new ++ r ∷ []), length-append new (r ∷ []), length-sparse_rows p basis))
+          (λ j u. row_old j (omega (arith, length-sparse_rows p basis)))
+          (last-sparse_rows-push p new r (length (sparse_rows p basis)) (omega (arith, length-sparse_rows p basis)))
+          (omega (arith, length-sparse_rows p (newlogs ++ t ∷ []), length-append newlogs (t ∷ []), length-sparse_rows p basis, many_logs))
+          (λ j u. log_old j (omega (arith, length-sparse_rows p basis)))
+          (last-sparse_rows-push p newlogs t (length (sparse_rows p basis)) (omega (arith, length-sparse_rows p basis, many_logs)))
+          (λ j u. lead_before l k l.width j (omega (arith, length-sparse_rows p basis, h.many)))
+          (get_or_push l.places k 0 (length (sparse_rows p basis)) (omega (arith, length-sparse_rows p basis, h.many)));
+      width = h.width;
+      many = omega (arith, length-append l.places (k ∷ []), length-append new (r ∷ []), h.many);
+      basis_rows = AreRows-push p s.width new r rows r_sized r_residues;
+      log_rows = AreRows-push p (length s.rows) newlogs t log_rows t_sized t_residues;
+      few = omega (arith, length-append kept (n ∷ []), h.few);
+    }
   where
     p : ℕ
     p = s.characteristic

@@ -41,7 +41,7 @@ impl Model for Echelon {
 }
 
 // The rows, for contracts alone: a snapshot has no bytes, so the list takes no memory.
-fn remembered(alloc: Global, rows: &[Combo]) -> Result<Vec<Snapshot<Combo>>, AllocError>
+fn snapshots_of(alloc: Global, rows: &[Combo]) -> Result<Vec<Snapshot<Combo>>, AllocError>
     ensures { IfOk result (λ v. map (λ s. s.value) v.items ≡ rows.now) }
 {
     let mut given = Vec::new(alloc);
@@ -68,7 +68,7 @@ pub fn eliminate(
     ensures { IfOk result (λ e. e ≡ system field width rows.now) }
 {
     let stored = stored_of(alloc, field, rows, width)?;
-    let given = remembered(alloc, rows)?;
+    let given = snapshots_of(alloc, rows)?;
     Ok(Echelon {
         field,
         width,

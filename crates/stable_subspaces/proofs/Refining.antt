@@ -13,7 +13,8 @@ pub record Chosen {p : ℕ} (parts : List (List (Vector p))) (sum : Vector p) : 
   pub adds_up : vector_sum pieces ≡ sum
 
 -- a choice from the parts, with the first vector split in two
-split_next : {p : ℕ} {w k i : List (Vector p)} {news : List (List (Vector p))} (v s : Vector p) → IsSumOfTwo w k i → InSpan w v → Chosen news s → Chosen (k ∷ i ∷ news) (v ⊞ s)
+split_next : {p : ℕ} {w k i : List (Vector p)} {news : List (List (Vector p))} (v s : Vector p) → IsSumOfTwo w k i → InSpan w v → Chosen news s
+    → Chosen (k ∷ i ∷ news) (v ⊞ s)
 split_next v s two h c =
     let (x, y, hx, hy, e) = two.splits v h in
     record {
@@ -23,7 +24,8 @@ split_next v s two h c =
     }
 
 -- each choice from the parts has one from the new parts with the same sum
-split_choice : {p : ℕ} {parts news : List (List (Vector p))} {vs : List (Vector p)} → Refined parts news → Choice parts vs → Chosen news (vector_sum vs)
+split_choice : {p : ℕ} {parts news : List (List (Vector p))} {vs : List (Vector p)} → Refined parts news → Choice parts vs
+    → Chosen news (vector_sum vs)
 split_choice done none = record { pieces = []; choice = none; adds_up = refl }
 split_choice (next two r) (more {v = v} {vs = vs} h c) = split_next v (vector_sum vs) two h (split_choice r c)
 
@@ -34,12 +36,14 @@ data Paired {p : ℕ} : List (List (Vector p)) → List (List (Vector p)) → Li
       → IsSumOfTwo w k i → InSpan k x → InSpan i y → Paired parts news xs vs → Paired (w ∷ parts) (k ∷ i ∷ news) (x ∷ y ∷ xs) ((x ⊞ y) ∷ vs)
 
 -- each choice from the new parts joins in pairs
-paired : {p : ℕ} {parts news : List (List (Vector p))} {xs : List (Vector p)} → Refined parts news → Choice news xs → (vs : List (Vector p)) × Paired parts news xs vs
+paired : {p : ℕ} {parts news : List (List (Vector p))} {xs : List (Vector p)} → Refined parts news → Choice news xs
+    → (vs : List (Vector p)) × Paired parts news xs vs
 paired done none = ([], no_pairs)
 paired (next two r) (more {v = x} hx (more {v = y} hy c)) = let (vs, q) = paired r c in ((x ⊞ y) ∷ vs, pair two hx hy q)
 
 -- and the pairs are a choice from the parts with the same sum
-paired_choice : {p : ℕ} {parts news : List (List (Vector p))} {xs vs : List (Vector p)} → Paired parts news xs vs → Choice parts vs × (vector_sum vs ≡ vector_sum xs)
+paired_choice : {p : ℕ} {parts news : List (List (Vector p))} {xs vs : List (Vector p)} → Paired parts news xs vs
+    → Choice parts vs × (vector_sum vs ≡ vector_sum xs)
 paired_choice no_pairs = (none, refl)
 paired_choice (pair {w = w} {x = x} {y = y} {xs = xs} two hx hy q) =
     let (c, e) = paired_choice q in
@@ -50,7 +54,8 @@ heads : {A : Type 0} (x y : A) (xs ys : List A) → x ∷ xs ≡ y ∷ ys → (x
 heads x y xs ys e = (cc, cc)
 
 -- choices whose pairs are equal are equal
-paired_once : {p : ℕ} {parts news : List (List (Vector p))} {xs ys vs ws : List (Vector p)} → Paired parts news xs vs → Paired parts news ys ws → vs ≡ ws → xs ≡ ys
+paired_once : {p : ℕ} {parts news : List (List (Vector p))} {xs ys vs ws : List (Vector p)} → Paired parts news xs vs → Paired parts news ys ws
+    → vs ≡ ws → xs ≡ ys
 paired_once no_pairs no_pairs e = refl
 paired_once (pair {x = x} {y = y} {vs = vs} two hx hy q) (pair {x = x'} {y = y'} {vs = vs'} two' hx' hy' q') e =
     let (first, rest) = heads (x ⊞ y) (x' ⊞ y') vs vs' e in
@@ -64,10 +69,12 @@ refined_direct {p} d parts news r s = record {
   one_choice = λ xs ys c c' e. once xs ys (paired r c) (paired r c') e;
 }
   where
-    some : (v : Vector _) → (vs : List (Vector p)) × Choice parts vs × (v ≡ vector_sum vs) → (ws : List (Vector p)) × Choice news ws × (v ≡ vector_sum ws)
+    some : (v : Vector _) → (vs : List (Vector p)) × Choice parts vs × (v ≡ vector_sum vs)
+        → (ws : List (Vector p)) × Choice news ws × (v ≡ vector_sum ws)
     some v (vs, c, e) = let k = split_choice r c in (k.pieces, k.choice, e ∙ sym k.adds_up)
 
-    once : (xs ys : List (Vector p)) → (vs : List (Vector p)) × Paired parts news xs vs → (ws : List (Vector p)) × Paired parts news ys ws → vector_sum xs ≡ vector_sum ys → xs ≡ ys
+    once : (xs ys : List (Vector p)) → (vs : List (Vector p)) × Paired parts news xs vs → (ws : List (Vector p)) × Paired parts news ys ws
+        → vector_sum xs ≡ vector_sum ys → xs ≡ ys
     once xs ys (vs, q) (ws, q') e =
         let (c, f) = paired_choice q in
         let (c', f') = paired_choice q' in

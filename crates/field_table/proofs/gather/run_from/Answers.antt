@@ -18,7 +18,8 @@ pub loop-end-preserved : goal.loop-end-preserved
 loop-end-preserved c = record {
   after = omega arith;
   within = omega arith;
-  sum = run_step c.args.field c.args.terms.now (sparse c.args.field (take c.args.start c.args.terms.now)) c.loop-end.end (place_at c.args.terms.now c.args.start) c.loop-end.sum c.add-sum.result
+  sum = run_step c.args.field c.args.terms.now (sparse c.args.field (take c.args.start c.args.terms.now)) c.loop-end.end
+      (place_at c.args.terms.now c.args.start) c.loop-end.sum c.add-sum.result
       (omega arith) c.if-terms-end.true c.loop-end.invariant.sum c.add-sum.ensures.value;
   below = c.add-sum.ensures.below;
 }

@@ -4,7 +4,10 @@ use Rattle.heilbronn_chains.proofs.NoFault.{merel_few, merel_no_fault, none_refu
 use Rattle.heilbronn_chains.proofs.lists.merel_by_chains.Goals as goal
 
 pub of-requires : goal.of-requires
-of-requires c = let h = c.in_ok-by_chains.ensures in record { few = merel_few c.args.n c.in_ok-by_chains.field-0.items (omega arith) (omega arith) h.items }
+of-requires c = let h = c.in_ok-by_chains.ensures in record {
+  few = merel_few c.args.n c.in_ok-by_chains.field-0.items (omega arith) (omega arith)
+      h.items;
+}
 
 pub returns-clause-set : goal.returns-clause-set
 returns-clause-set c = let h = c.in_ok-by_chains.ensures in subst (λ xs.

@@ -14,4 +14,5 @@ returns c =
     let first : c.times.result ≡ m.a *ℤ m.d = simp to_z-of_z at c.times.ensures.product in
     let second : c.times-2.result ≡ m.b *ℤ m.c = simp to_z-of_z at c.times-2.ensures.product in
     let fits_sum : FitsSigned w64 (c.from.result +ℤ c.times-2.result) = search rules in
-    determinant_test c.args.det m c.times.result c.from.result c.times-2.result (search rules) (search rules) (search rules) fits_sum first c.from.ensures second
+    determinant_test c.args.det m c.times.result c.from.result c.times-2.result (search rules) (search rules) (search rules) fits_sum first
+    c.from.ensures second

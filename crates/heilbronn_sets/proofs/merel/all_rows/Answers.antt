@@ -7,7 +7,8 @@ pub loop-a-init : goal.loop-a-init
 loop-a-init c = c.new-list.ensures.items ∙ corners_none c.args.n
 
 pub loop-a-preserved : goal.loop-a-preserved
-loop-a-preserved c = c.in_ok-push_corner.ensures.items ∙ pieces_more (with_corner c.args.n) c.loop-a.a [] c.loop-a.list.items (with_corner c.args.n c.loop-a.a) c.loop-a.invariant refl
+loop-a-preserved c = c.in_ok-push_corner.ensures.items ∙ pieces_more (with_corner c.args.n) c.loop-a.a [] c.loop-a.list.items
+    (with_corner c.args.n c.loop-a.a) c.loop-a.invariant refl
 
 pub returns : goal.returns
 returns c = record { items = corners_all c.args.n c.loop-a.a c.loop-a.list.items (omega arith) (omega arith) c.loop-a.invariant }

@@ -16,7 +16,8 @@ returns-clause-value c =
     let x : Vector p = sparse p c.args.trace.now in
     sum_value p c.args.level.now c.args.symbol c.from-6.result m c.s_of.result c.t_of-t.result c.t_of.result
     c.from.result c.from-2.result c.from-3.result c.from-4.result c.from-5.result x
-    c.requires.symbol (c.from-6.ensures ∙ c.characteristic.ensures.value) c.count-m.ensures.count c.s_of.ensures.number c.t_of-t.ensures.number c.t_of.ensures.number
+    c.requires.symbol (c.from-6.ensures ∙ c.characteristic.ensures.value) c.count-m.ensures.count c.s_of.ensures.number c.t_of-t.ensures.number
+    c.t_of.ensures.number
     (widened p _ _ _ c.from.ensures (c.at.ensures.number p))
     (widened p _ _ _ c.from-2.ensures (c.at-2.ensures.number p))
     (widened p _ _ _ c.from-3.ensures (c.at-3.ensures.number p))

@@ -12,7 +12,8 @@ use Rattle.manin_relations.proofs.row.relation.Goals as goal
 pair : (N k m s : ℕ) → m ≡ length (symbols N) → k < m → s ≡ image_number N k matrix_s → relation_symbols N k ≡ k ∷ s ∷ []
 pair N k m s count below is = symbols_of_pair N k (omega arith) ∙ ap (λ i. k ∷ i ∷ []) (sym is)
 
-triple : (N k m t u : ℕ) → m ≡ length (symbols N) → m ≤ k → t ≡ image_number N (k - m) matrix_t → u ≡ image_number N t matrix_t → relation_symbols N k ≡ (k - m) ∷ t ∷ u ∷ []
+triple : (N k m t u : ℕ) → m ≡ length (symbols N) → m ≤ k → t ≡ image_number N (k - m) matrix_t → u ≡ image_number N t matrix_t
+    → relation_symbols N k ≡ (k - m) ∷ t ∷ u ∷ []
 triple N k m t u count above first second =
     symbols_of_triple N k (omega arith) ∙ ap (λ i. t_triple N (k - i)) (sym count)
     ∙ ap (λ i. (k - m) ∷ i ∷ image_number N i matrix_t ∷ []) (sym first) ∙ ap (λ i. (k - m) ∷ t ∷ i ∷ []) (sym second)
@@ -22,7 +23,8 @@ returns-then-k-m c =
     let N : ℕ = c.args.level.now in
     let ks : List ℕ = c.args.k ∷ c.s_of.result ∷ [] in
     IfOk-weaker c.sum_of.result (IsSum c.args.field (ones (1 % c.args.field) ks)) (IsRelation N c.args.field c.args.k)
-    (λ x sum. IsRelation-from_sum N c.args.field c.args.k ks x c.requires.place (pair N c.args.k c.count-m.result c.s_of.result c.count-m.ensures.count c.if-k-m.true c.s_of.ensures.number) sum)
+    (λ x sum. IsRelation-from_sum N c.args.field c.args.k ks x c.requires.place
+    (pair N c.args.k c.count-m.result c.s_of.result c.count-m.ensures.count c.if-k-m.true c.s_of.ensures.number) sum)
     c.sum_of.ensures
 
 pub returns-else-k-m : goal.returns-else-k-m
@@ -30,5 +32,7 @@ returns-else-k-m c =
     let N : ℕ = c.args.level.now in
     let ks : List ℕ = (c.args.k - c.count-m.result) ∷ c.t_of-t.result ∷ c.t_of.result ∷ [] in
     IfOk-weaker c.sum_of-else-k-m.result (IsSum c.args.field (ones (1 % c.args.field) ks)) (IsRelation N c.args.field c.args.k)
-    (λ x sum. IsRelation-from_sum N c.args.field c.args.k ks x c.requires.place (triple N c.args.k c.count-m.result c.t_of-t.result c.t_of.result c.count-m.ensures.count c.if-k-m.false c.t_of-t.ensures.number c.t_of.ensures.number) sum)
+    (λ x sum. IsRelation-from_sum N c.args.field c.args.k ks x c.requires.place
+    (triple N c.args.k c.count-m.result c.t_of-t.result c.t_of.result c.count-m.ensures.count c.if-k-m.false c.t_of-t.ensures.number
+    c.t_of.ensures.number) sum)
     c.sum_of-else-k-m.ensures

@@ -13,4 +13,5 @@ unfolding relation
 counted p q N k s n same is = ap (λ i. residue p (n % i)) same ∙ same_from_mod p (n % p) n (mod-mod n p) ∙ ap (residue p) is
 
 pub returns-clause-value : goal.returns-clause-value
-returns-clause-value c = counted c.args.field c.characteristic.result c.args.level.now c.args.k c.args.symbol c.occurrences.result c.characteristic.ensures.value c.occurrences.ensures.count
+returns-clause-value c = counted c.args.field c.characteristic.result c.args.level.now c.args.k c.args.symbol c.occurrences.result
+    c.characteristic.ensures.value c.occurrences.ensures.count

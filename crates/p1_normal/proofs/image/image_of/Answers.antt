@@ -14,5 +14,7 @@ returns-clause-image c =
     let p = c.args.p in
     let h = c.requires.entries in
     same_point _ _
-    (c.part.ensures.residue ∙ ap (λ i. residue_of c.args.n (pos p.u *ℤ i +ℤ pos p.v *ℤ cast_signed w32 (cast_unsigned w32 m.c))) (whole m.a h.a) ∙ ap (λ i. residue_of c.args.n (pos p.u *ℤ m.a +ℤ pos p.v *ℤ i)) (whole m.c h.c))
-    (c.part-2.ensures.residue ∙ ap (λ i. residue_of c.args.n (pos p.u *ℤ i +ℤ pos p.v *ℤ cast_signed w32 (cast_unsigned w32 m.d))) (whole m.b h.b) ∙ ap (λ i. residue_of c.args.n (pos p.u *ℤ m.b +ℤ pos p.v *ℤ i)) (whole m.d h.d))
+    (c.part.ensures.residue ∙ ap (λ i. residue_of c.args.n (pos p.u *ℤ i +ℤ pos p.v *ℤ cast_signed w32 (cast_unsigned w32 m.c))) (whole m.a h.a)
+    ∙ ap (λ i. residue_of c.args.n (pos p.u *ℤ m.a +ℤ pos p.v *ℤ i)) (whole m.c h.c))
+    (c.part-2.ensures.residue ∙ ap (λ i. residue_of c.args.n (pos p.u *ℤ i +ℤ pos p.v *ℤ cast_signed w32 (cast_unsigned w32 m.d))) (whole m.b h.b)
+    ∙ ap (λ i. residue_of c.args.n (pos p.u *ℤ m.b +ℤ pos p.v *ℤ i)) (whole m.d h.d))

@@ -12,4 +12,7 @@ pub returns-else-found-eq0-clause-below : goal.returns-else-found-eq0-clause-bel
 returns-else-found-eq0-clause-below c = (c.look_up-found.ensures.some (c.look_up-found.result - 1) (omega (arith, c.if-found-eq0.false))).below
 
 pub returns-else-found-eq0-clause-some : goal.returns-else-found-eq0-clause-some
-returns-else-found-eq0-clause-some c = (λ e. (c.look_up-found.ensures.some (c.look_up-found.result - 1) (omega (arith, c.if-found-eq0.false))).point, λ e. refl)
+returns-else-found-eq0-clause-some c = (
+  λ e. (c.look_up-found.ensures.some (c.look_up-found.result - 1) (omega (arith, c.if-found-eq0.false))).point,
+  λ e. refl,
+)

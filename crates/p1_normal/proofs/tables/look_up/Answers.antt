@@ -9,19 +9,41 @@ abbrev nothing : Turn
 nothing = record { head = 0; factor = 0 }
 
 pub overflow_mul-result : goal.overflow_mul-result
-overflow_mul-result c = omega (arith, turned_place c.args.p.u c.args.p.v c.requires.level.0 (turn_at c.args.p.u nothing c.requires.turns c.requires.below.first), small_square c.args.n c.requires.level.1)
+overflow_mul-result c = omega (
+  arith,
+  turned_place c.args.p.u c.args.p.v c.requires.level.0
+      (turn_at c.args.p.u nothing c.requires.turns c.requires.below.first),
+  small_square c.args.n c.requires.level.1,
+)
 
 pub overflow_mul-result-2 : goal.overflow_mul-result-2
-overflow_mul-result-2 c = omega (arith, product_small c.args.n (get_or c.args.turns.now c.args.p.u nothing).factor c.args.p.v c.requires.level.1 (turn_at c.args.p.u nothing c.requires.turns c.requires.below.first).small c.requires.below.second)
+overflow_mul-result-2 c = omega (
+  arith,
+  product_small c.args.n (get_or c.args.turns.now c.args.p.u nothing).factor c.args.p.v c.requires.level.1
+      (turn_at c.args.p.u nothing c.requires.turns c.requires.below.first).small c.requires.below.second,
+)
 
 pub overflow_add-result : goal.overflow_add-result
-overflow_add-result c = omega (arith, turned_place c.args.p.u c.args.p.v c.requires.level.0 (turn_at c.args.p.u nothing c.requires.turns c.requires.below.first), small_square c.args.n c.requires.level.1)
+overflow_add-result c = omega (
+  arith,
+  turned_place c.args.p.u c.args.p.v c.requires.level.0
+      (turn_at c.args.p.u nothing c.requires.turns c.requires.below.first),
+  small_square c.args.n c.requires.level.1,
+)
 
 pub bounds-numbers-turn : goal.bounds-numbers-turn
-bounds-numbers-turn c = omega (arith, turned_place c.args.p.u c.args.p.v c.requires.level.0 (turn_at c.args.p.u nothing c.requires.turns c.requires.below.first), c.requires.numbering.size)
+bounds-numbers-turn c = omega (
+  arith,
+  turned_place c.args.p.u c.args.p.v c.requires.level.0
+      (turn_at c.args.p.u nothing c.requires.turns c.requires.below.first),
+  c.requires.numbering.size,
+)
 
 pub returns-clause-none : goal.returns-clause-none
-returns-clause-none c = λ e. turned_none c.args.p c.requires.level.0 c.requires.below (turn_at c.args.p.u nothing c.requires.turns c.requires.below.first) c.requires.numbering e
+returns-clause-none c = λ e. turned_none c.args.p c.requires.level.0 c.requires.below
+    (turn_at c.args.p.u nothing c.requires.turns c.requires.below.first) c.requires.numbering e
 
 pub returns-clause-some : goal.returns-clause-some
-returns-clause-some c = λ k e. let f : k + 1 ≡ suc k = omega arith in IsFound-from c.args.n c.args.p k (turned_number c.args.p k c.requires.level.0 c.requires.below (turn_at c.args.p.u nothing c.requires.turns c.requires.below.first) c.requires.numbering (e ∙ f))
+returns-clause-some c = λ k e. let f : k + 1 ≡ suc k = omega arith in IsFound-from c.args.n c.args.p k
+    (turned_number c.args.p k c.requires.level.0 c.requires.below (turn_at c.args.p.u nothing c.requires.turns c.requires.below.first)
+    c.requires.numbering (e ∙ f))

@@ -18,10 +18,14 @@ loop-u-preserved c = elim c.if-turns-u.branch [
   | then-turns-u+in_ok-kept+in_ok-number_row w ↦
       let row = w.in_ok-number_row.ensures in
       sieve_same (ap (λ list. list.items) w.points-is)
-      (ap (λ list. list.items) w.numbers-is ∙ with_items_is c.loop-u.numbers w.number_row.new.numbers (row.size ∙ sym c.loop-u.invariant.size ∙ sym c.loop-u.numbers.ok.0)) (row_done c.loop-u.u row)
+      (ap (λ list. list.items) w.numbers-is ∙ with_items_is c.loop-u.numbers w.number_row.new.numbers
+      (row.size ∙ sym c.loop-u.invariant.size ∙ sym c.loop-u.numbers.ok.0)) (row_done c.loop-u.u row)
   | else-turns-u w ↦ sieve_same (ap (λ list. list.items) w.points-is) (ap (λ list. list.items) w.numbers-is)
-      (row_skipped c.requires.level.0 c.loop-u-test.true (λ head. w.if-turns-u.false (turn_own c.args.n c.loop-u.u (get_or c.args.turns.now c.loop-u.u nothing) c.loop-u-test.true (turn_at c.loop-u.u nothing c.requires.turns c.loop-u-test.true) head)) c.loop-u.invariant)
+      (row_skipped c.requires.level.0 c.loop-u-test.true (λ head. w.if-turns-u.false
+      (turn_own c.args.n c.loop-u.u (get_or c.args.turns.now c.loop-u.u nothing) c.loop-u-test.true
+      (turn_at c.loop-u.u nothing c.requires.turns c.loop-u-test.true) head)) c.loop-u.invariant)
 ]
 
 pub returns : goal.returns
-returns c = let e : c.loop-u.u ≡ c.args.n = omega (arith, c.loop-u-test.false, c.loop-u.auto.u-end) in sieve_all c.requires.level.0 (ap (λ u. u * c.args.n) e) c.loop-u.invariant
+returns c = let e : c.loop-u.u ≡ c.args.n = omega (arith, c.loop-u-test.false, c.loop-u.auto.u-end) in sieve_all c.requires.level.0
+    (ap (λ u. u * c.args.n) e) c.loop-u.invariant

@@ -13,7 +13,9 @@ loop-term-preserved c =
     let above : 0 < c.args.field = search rules in
     elim c.match-number_of.branch [
       | in-Some+in_ok-push w ↦ rw (w.negated-is, w.in_ok-push.ensures.items)
-          (renumbered_put c.args.field above c.args.free.now.places c.args.terms.now c.loop-term.term-index c.loop-term.negated.items c.requires.free c.requires.rising c.requires.residues c.loop-term.invariant c.loop-term-test.true
+          (renumbered_put c.args.field above c.args.free.now.places c.args.terms.now c.loop-term.term-index c.loop-term.negated.items c.requires.free
+          c.requires.rising c.requires.residues c.loop-term.invariant c.loop-term-test.true
           _ w.neg.result w.in-Some.ensures.number.0 w.in-Some.ensures.number.1 w.neg.ensures.value w.neg.ensures.residue w.neg.ensures.below)
-      | in_default w ↦ rw w.negated-is (renumbered_skip c.args.field c.args.free.now.places c.args.terms.now c.loop-term.term-index c.loop-term.negated.items c.requires.rising c.loop-term.invariant c.loop-term-test.true w.in_default.ensures.number)
+      | in_default w ↦ rw w.negated-is (renumbered_skip c.args.field c.args.free.now.places c.args.terms.now c.loop-term.term-index
+          c.loop-term.negated.items c.requires.rising c.loop-term.invariant c.loop-term-test.true w.in_default.ensures.number)
     ]

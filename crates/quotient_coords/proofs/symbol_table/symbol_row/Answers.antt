@@ -21,10 +21,13 @@ returns c N p space = elim c.match-number_of.branch [
   | in-Some+in_ok-row-in-Some w ↦
       let row : c.of.result ≡ w.in_ok-row-in-Some.row.items = rw w.row-is at c.of.ensures in
       subst (IsSymbolRow N p c.args.symbol) (sym (row ∙ w.in_ok-row-in-Some.ensures.items_if_clones_equal (search rules)))
-      (symbol_row_free N p c.args.echelon.now c.args.free.now.places c.args.symbol _ space (subst (λ q. 1 < q) (space_characteristic N p c.args.echelon.now c.args.free.now.places space) c.requires.prime.above_one) w.in-Some.ensures.number.0 w.in-Some.ensures.number.1)
+      (symbol_row_free N p c.args.echelon.now c.args.free.now.places c.args.symbol _ space
+      (subst (λ q. 1 < q) (space_characteristic N p c.args.echelon.now c.args.free.now.places space) c.requires.prime.above_one)
+      w.in-Some.ensures.number.0 w.in-Some.ensures.number.1)
   | in-None+in_ok-row-in-None w ↦
       let row : c.of.result ≡ w.in_ok-row-in-None.row.items = rw w.row-is at c.of.ensures in
       subst (IsSymbolRow N p c.args.symbol) (sym row)
-      (symbol_row_bound N p c.args.field c.args.echelon.now c.args.free.now.places c.args.symbol w.row.result.now _ space c.requires.field c.requires.place w.in-None.ensures.number w.row.ensures.row w.row.ensures.places
+      (symbol_row_bound N p c.args.field c.args.echelon.now c.args.free.now.places c.args.symbol w.row.result.now _ space c.requires.field
+      c.requires.place w.in-None.ensures.number w.row.ensures.row w.row.ensures.places
       w.in_ok-row-in-None.ensures.places w.in_ok-row-in-None.ensures.residues (rw w.terms.ensures.terms at w.in_ok-row-in-None.ensures.entries))
 ]

@@ -18,7 +18,8 @@ push-requires-clause-other c =
     let listed : IsListed c.args.field = search rules in
     let last = last_of c.args.field c.args.left.now (length c.args.left.now - 1) c.requires.combo c.requires.residues
     (omega (arith, c.requires.some)) in
-    rw c.in_ok-clear.ensures.leads (other_leads _ (listed_prime c.args.field listed) c.args.n _ _ _ _ c.requires.stored c.args.left.now _ _ c.requires.left last.some)
+    rw c.in_ok-clear.ensures.leads (other_leads _ (listed_prime c.args.field listed) c.args.n _ _ _ _ c.requires.stored c.args.left.now _ _
+    c.requires.left last.some)
 
 pub clear-requires-clause-one : goal.clear-requires-clause-one
 clear-requires-clause-one c =
@@ -61,8 +62,16 @@ returns-clause-stored c =
     (length c.args.occurrences.now) c.requires.places in
     let log_places : HasPlacesBelow (length c.args.rows.now) c.in_ok-log.log = c.in_ok-log.ensures.rows (length c.args.rows.now) c.requires.number
     (rw c.deref.ensures.value c.requires.stored.log_rows.places) in
-    rw (c.in_ok-push.ensures.basis, c.in_ok-push.ensures.logs, c.in_ok-push.ensures.leads, c.in_ok-push.ensures.kept, c.in_ok-clear.ensures.leads, c.in_ok-clear.ensures.kept)
-    (stored_kept _ (listed_prime c.args.field listed) c.args.n _ _ _ _ c.requires.stored c.requires.number c.args.left.now _ c.unwrap-inverse.result c.requires.left
+    rw (
+      c.in_ok-push.ensures.basis,
+      c.in_ok-push.ensures.logs,
+      c.in_ok-push.ensures.leads,
+      c.in_ok-push.ensures.kept,
+      c.in_ok-clear.ensures.leads,
+      c.in_ok-clear.ensures.kept,
+    )
+    (stored_kept _ (listed_prime c.args.field listed) c.args.n _ _ _ _ c.requires.stored c.requires.number c.args.left.now _ c.unwrap-inverse.result
+    c.requires.left
     (ap (λ a. a ⊗ residue c.args.field c.unwrap-inverse.result) last.at ∙ inverted) last.beyond
     c.in_ok-row.row c.in_ok-log.log c.in_ok-row.ensures.product (rw (c.deref.ensures.value, terms) at c.in_ok-log.ensures.log)
     row_places log_places c.in_ok-row.ensures.residues c.in_ok-log.ensures.residues
@@ -82,7 +91,8 @@ returns-clause-occurrences c =
     let count : c.len.result ≡ length c.clear.new.self.basis.items = search rules in
     let counted : c.len.result ≡ length basis = count ∙ c.in_ok-clear.ensures.count in
     rw (c.in_ok-push.ensures.basis, c.in_ok-push.ensures.leads, c.in_ok-clear.ensures.leads)
-    (occurrences_kept c.args.field _ (omega (arith, prime.above_one)) basis c.args.stored.now.leads c.args.occurrences.now c.requires.occurrences c.requires.stored.many
+    (occurrences_kept c.args.field _ (omega (arith, prime.above_one)) basis c.args.stored.now.leads c.args.occurrences.now c.requires.occurrences
+    c.requires.stored.many
     c.in_ok-row.row c.terms-2.ensures.combo
     (multiple_at c.args.field c.unwrap-inverse.result c.args.left.now c.in_ok-row.row _ c.in_ok-row.ensures.product
     (ap (λ a. a ⊗ residue c.args.field c.unwrap-inverse.result) last.at ∙ inverted)) (one≢zero prime)
@@ -91,6 +101,7 @@ returns-clause-occurrences c =
     c.in_ok-clear.ensures.row c.in_ok-clear.ensures.listed
     (rw (c.replace-numbers.ensures.after, c.none.ensures) at c.in_ok-clear.ensures.grows)
     (rw (c.replace-numbers.ensures.after, c.none.ensures) at c.in_ok-clear.ensures.below)
-    (subst (IsAt c.add_row.new.occurrences c.in_ok-row.row) counted (rw c.terms-2.ensures.terms at c.in_ok-add_row.ensures.added)) c.in_ok-add_row.ensures.grows
+    (subst (IsAt c.add_row.new.occurrences c.in_ok-row.row) counted (rw c.terms-2.ensures.terms at c.in_ok-add_row.ensures.added))
+    c.in_ok-add_row.ensures.grows
     (c.in_ok-add_row.ensures.below (length basis + 1) (omega (arith, counted)))
     (c.add_row.auto.occurrences ∙ c.clear.auto.occurrences ∙ length-set c.args.occurrences.now _ _))

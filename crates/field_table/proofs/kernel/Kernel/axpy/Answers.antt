@@ -8,7 +8,8 @@ use Rattle.field_table.proofs.kernel.Kernel.axpy.Goals as goal
 
 pub returns-clause-sum : goal.returns-clause-sum
 returns-clause-sum g c =
-    dense_plus g.row.P c.of-multiple.result.factor c.args.acc.now c.args.row.now c.loop-i.acc c.requires.lengths (omega arith) (λ k l. c.loop-i.invariant.done k (omega arith))
+    dense_plus g.row.P c.of-multiple.result.factor c.args.acc.now c.args.row.now c.loop-i.acc c.requires.lengths (omega arith)
+    (λ k l. c.loop-i.invariant.done k (omega arith))
     ∙ ap (λ f. dense g.row.P c.args.acc.now ⊞ residue g.row.P f ⊡ dense g.row.P c.args.row.now) c.of-multiple.ensures
 
 pub returns-clause-residues : goal.returns-clause-residues

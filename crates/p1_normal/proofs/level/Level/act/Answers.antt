@@ -16,15 +16,19 @@ unfolding image_number
 number_at n N k r q m level at is = is ∙ ap (λ x. number x (normal_form x q)) level ∙ ap (λ w. number N (normal_form N w)) at
 
 pub image_of-image-requires-clause-below : goal.image_of-image-requires-clause-below
-image_of-image-requires-clause-below c = subst (λ n. IsBelow n c.symbol.result) (sym c.self.view_is) (subst (IsBelow c.args.self.now) (sym c.symbol.ensures) (symbol_below c.args.self.now c.args.k c.requires.place))
+image_of-image-requires-clause-below c = subst (λ n. IsBelow n c.symbol.result) (sym c.self.view_is)
+    (subst (IsBelow c.args.self.now) (sym c.symbol.ensures) (symbol_below c.args.self.now c.args.k c.requires.place))
 
 pub number_of-requires-clause-names : goal.number_of-requires-clause-names
 number_of-requires-clause-names c =
     ap (λ n. common_divisor n c.image_of-image.result) c.self.view_is
-    ∙ ap (common_divisor c.args.self.now) (image_at c.self.inside.n c.args.self.now c.args.k c.symbol.result c.image_of-image.result c.args.matrix.now c.self.view_is c.symbol.ensures c.image_of-image.ensures.image)
+    ∙ ap (common_divisor c.args.self.now) (image_at c.self.inside.n c.args.self.now c.args.k c.symbol.result c.image_of-image.result c.args.matrix.now
+    c.self.view_is c.symbol.ensures c.image_of-image.ensures.image)
     ∙ coprime_at c.args.self.now c.args.k c.args.matrix.now c.requires.place c.requires.coprime
 
 pub returns-clause-number : goal.returns-clause-number
-returns-clause-number c = number_at c.self.inside.n c.args.self.now c.args.k c.number_of.result c.image_of-image.result c.args.matrix.now c.self.view_is
-    (image_at c.self.inside.n c.args.self.now c.args.k c.symbol.result c.image_of-image.result c.args.matrix.now c.self.view_is c.symbol.ensures c.image_of-image.ensures.image)
+returns-clause-number c = number_at c.self.inside.n c.args.self.now c.args.k c.number_of.result c.image_of-image.result c.args.matrix.now
+    c.self.view_is
+    (image_at c.self.inside.n c.args.self.now c.args.k c.symbol.result c.image_of-image.result c.args.matrix.now c.self.view_is c.symbol.ensures
+    c.image_of-image.ensures.image)
     c.number_of.ensures.number

@@ -8,7 +8,8 @@ use Rattle.p1_normal.proofs.Numbers.{symbol_at-number, level_positive}
 use Rattle.p1_normal.proofs.level.Level.normal.Goals as goal
 
 -- the symbol at the number of a point is its normal form
-found : (N k : ℕ) (x y u v : ℤ) (p : Point) → x ≡ u → y ≡ v → p ≡ symbol_at N k → k ≡ number N (normal_form N (reduced N x y)) → k < length (symbols N) → common_divisor N (reduced N x y) ≡ 1 → p ≡ normal_form N (reduced N u v)
+found : (N k : ℕ) (x y u v : ℤ) (p : Point) → x ≡ u → y ≡ v → p ≡ symbol_at N k → k ≡ number N (normal_form N (reduced N x y))
+    → k < length (symbols N) → common_divisor N (reduced N x y) ≡ 1 → p ≡ normal_form N (reduced N u v)
 found N k x y u v p same_u same_v at is below one =
     at ∙ ap (symbol_at N) is ∙ symbol_at-number N (reduced N x y) (level_positive N k below) one
     ∙ ap (λ z. normal_form N (reduced N z y)) same_u ∙ ap (λ z. normal_form N (reduced N u z)) same_v

@@ -14,6 +14,7 @@ returns c =
     let (values, h) = coordinates_of (ground_of c.self.inside.level c.self.inside.field) c.args.combo.now
     (listed_prime c.self.inside.field c.self.invariant.0.listed) below in
     subst (λ g. HasKeptCoefficients g c.args.combo.now c.in_ok-coefficients.coefficients) c.self.view_is
-    (has_trace c.self.inside.level c.self.inside.field c.self.inside.echelon c.self.inside.free.places c.args.combo.now c.in_ok-coefficients.coefficients values
+    (has_trace c.self.inside.level c.self.inside.field c.self.inside.echelon c.self.inside.free.places c.args.combo.now
+    c.in_ok-coefficients.coefficients values
     c.self.invariant.0 h c.in_ok-coefficients.ensures.trace c.terms-rising.ensures.combo c.in_ok-coefficients.ensures.rows
     c.in_ok-coefficients.ensures.residues)

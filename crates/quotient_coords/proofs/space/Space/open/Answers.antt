@@ -12,7 +12,12 @@ use Rattle.quotient_coords.proofs.space.Space.open.Goals as goal
 
 pub eliminate-requires-clause-count : goal.eliminate-requires-clause-count
 eliminate-requires-clause-count c = subst (λ rows. length rows < 2 ^ 32 - 1) (sym c.rows.ensures)
-    (omega (arith, length-rows c.args.level c.args.field c.in_ok-relations.relations c.in_ok-relations.ensures, c.count.ensures.count, c.count.ensures.limited))
+    (omega (
+      arith,
+      length-rows c.args.level c.args.field c.in_ok-relations.relations c.in_ok-relations.ensures,
+      c.count.ensures.count,
+      c.count.ensures.limited,
+    ))
 
 pub places_without_pivot-requires-clause-prime : goal.places_without_pivot-requires-clause-prime
 places_without_pivot-requires-clause-prime c =
@@ -32,7 +37,9 @@ symbol_rows-requires-clause-prime c =
 pub invariant_of-result : goal.invariant_of-result
 invariant_of-result c =
     let listed : IsListed c.args.field = c.well_formed.1.1.0.1.0.1 in
-    let space : IsSpace c.args.level c.args.field c.in_ok-echelon.echelon c.in_ok-free.free.places = opened c.args.level c.args.field c.rows.result.now c.count.result c.count-2.result c.in_ok-echelon.echelon c.in_ok-free.free.places listed c.count.ensures.count c.count-2.ensures.count
+    let space : IsSpace c.args.level c.args.field c.in_ok-echelon.echelon c.in_ok-free.free.places =
+    opened c.args.level c.args.field c.rows.result.now c.count.result c.count-2.result c.in_ok-echelon.echelon c.in_ok-free.free.places listed
+    c.count.ensures.count c.count-2.ensures.count
     (subst (AreRelations c.args.level c.args.field) (sym c.rows.ensures) c.in_ok-relations.ensures) c.in_ok-echelon.ensures
     (ap (λ l. l.places) c.in_ok-free.ensures) in (
       space,
