@@ -6,6 +6,7 @@
 mod entry;
 mod name;
 mod poly;
+mod values;
 
 pub use entry::SplitEntry;
 pub use name::OpName;
