@@ -13,9 +13,9 @@ use field_table::{Field, OutOfMemory, Residues};
 use std::alloc::Global;
 use std::marker::Model;
 
-/// A subspace of the vectors of one width, by the one reduced echelon basis that it has (Hoffman and Kunze, Linear
-/// Algebra, 2.5): each row's first nonzero number is 1, these places rise, and the other rows are 0 there. Contracts see the
-/// characteristic, the width and the rows.
+/// A subspace of the vectors of one width, by the one reduced echelon basis that it has (Hoffman
+/// and Kunze, Linear Algebra, 2.5): each row's first nonzero number is 1, these places rise, and
+/// the other rows are 0 there. Contracts see the characteristic, the width and the rows.
 #[derive(Drop)]
 pub struct Basis {
     field: Field,
@@ -48,8 +48,8 @@ pub fn basis_of(field: Field, width: u32, echelon: Echelon) -> Basis
     }
 }
 
-/// The reduced echelon basis of the combinations of the rows. Costs a pass over the width for each row and each row of the
-/// basis before it.
+/// The reduced echelon basis of the combinations of the rows. Costs a pass over the width for each
+/// row and each row of the basis before it.
 pub fn span_of(
     alloc: Global,
     field: Field,
@@ -120,7 +120,8 @@ impl Basis {
         requires field { self.now.characteristic ≡ field }
         requires width { length v.now ≡ self.now.width }
         requires residues { AreResidues field v.now }
-        ensures { IfOk result (λ b. IsTrue b ↔ InSpan (dense_rows field self.now.rows) (dense field v.now)) }
+        ensures { IfOk result (λ b. IsTrue b
+            ↔ InSpan (dense_rows field self.now.rows) (dense field v.now)) }
     {
         let left = remainder_of(alloc, self.field, &self.rows, &self.leads, v)?;
         match least_place(&left) {

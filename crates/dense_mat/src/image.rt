@@ -9,7 +9,8 @@ use crate::mat::Mat;
 use field_table::{Field, OutOfMemory};
 use std::alloc::Global;
 
-/// The image of the part. Costs a product of the matrix with each row of the part and the elimination of the images.
+/// The image of the part. Costs a product of the matrix with each row of the part and the
+/// elimination of the images.
 pub fn image_on(alloc: Global, field: Field, mat: &Mat, part: &Basis) -> Result<Basis, OutOfMemory>
     requires field { part.now.characteristic ≡ field }
     requires matrix { IsMatrix field mat.now }

@@ -1,5 +1,5 @@
-//! Dense matrices and subspaces over a prime field: products, images and null spaces, each subspace by its one
-//! reduced echelon basis. It knows nothing of where the matrices come from.
+//! Dense matrices and subspaces over a prime field: products, images and null spaces, each subspace
+//! by its one reduced echelon basis. It knows nothing of where the matrices come from.
 #![tactic(auto)]
 
 mod addition;
@@ -12,6 +12,8 @@ mod laws;
 mod mat;
 mod multiplication;
 mod null_space;
+#[cfg(test)]
+mod tests;
 
 pub use basis::{Basis, independent, span_of, whole_space};
 pub use image::image_on;

@@ -11,9 +11,9 @@ use field_table::{Field, OutOfMemory, Residues, axpy};
 use std::alloc::Global;
 use std::marker::Model;
 
-/// A square matrix: column j is the image of the j-th unit vector. It keeps no characteristic: that its entries are residues
-/// is a condition of the calls that compute with it. Contracts see the list of its columns, which stand one after another
-/// in one block.
+/// A square matrix: column j is the image of the j-th unit vector. It keeps no characteristic: that
+/// its entries are residues is a condition of the calls that compute with it. Contracts see the
+/// list of its columns, which stand one after another in one block.
 #[derive(Debug, Drop)]
 pub struct Mat {
     size: u32,
@@ -43,8 +43,10 @@ fn column_of(entries: &[u32], size: usize, j: usize) -> &[u32]
 
 // The columns one after another.
 fn block_of(alloc: Global, columns: &[Residues]) -> Result<Vec<u32>, OutOfMemory>
-    requires square { (j : ℕ) → j < length columns.now → length (slice_index_or columns.now j []) ≡ length columns.now }
-    ensures { IfOk result (λ v. IsBlock (length columns.now) columns.now (length columns.now) v.items) }
+    requires square { (j : ℕ) → j < length columns.now →
+        length (slice_index_or columns.now j []) ≡ length columns.now }
+    ensures { IfOk result (λ v.
+        IsBlock (length columns.now) columns.now (length columns.now) v.items) }
 {
     let mut entries = Vec::new(alloc);
     for j in 0..columns.len() {

@@ -18,7 +18,8 @@ fn add_image(field: Field, mat: &Mat, v: &[u32], acc: &mut [u32])
     requires vector { length v.now ≡ length mat.now }
     requires vector_residues { AreResidues field v.now }
     requires residues { AreResidues field acc.old }
-    ensures sum { dense field acc.new ≡ dense field acc.old ⊞ apply (dense_rows field mat.now) (dense field v.now) }
+    ensures sum { dense field acc.new
+        ≡ dense field acc.old ⊞ apply (dense_rows field mat.now) (dense field v.now) }
     ensures residues { AreResidues field acc.new }
 {
     for j in 0..mat.size() {
@@ -32,7 +33,8 @@ impl Mat {
         requires matrix { IsMatrix field self.now }
         requires vector { length v.now ≡ length self.now }
         requires residues { AreResidues field v.now }
-        ensures image { IfOk result (λ r. dense field r ≡ apply (dense_rows field self.now) (dense field v.now)) }
+        ensures image { IfOk result (λ r. dense field r
+            ≡ apply (dense_rows field self.now) (dense field v.now)) }
         ensures residues { IfOk result (λ r. AreResidues field r) }
         ensures length { IfOk result (λ r. length r ≡ length self.now) }
     {
@@ -62,7 +64,8 @@ impl Mat {
         Ok(images)
     }
 
-    /// The images of rows under the matrix applied n times. No power of the matrix is formed. Costs n times the images.
+    /// The images of rows under the matrix applied n times. No power of the matrix is formed. Costs
+    /// n times the images.
     pub fn apply_power_to_rows(
         &self,
         alloc: Global,

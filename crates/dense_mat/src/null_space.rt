@@ -53,7 +53,8 @@ fn rests_of(
     width: usize,
 ) -> Result<Vec<Residues>, OutOfMemory>
     requires start { start ≤ length rows.now }
-    requires widths { (j : ℕ) → j < length rows.now → width ≤ length (slice_index_or rows.now j []) }
+    requires widths { (j : ℕ) → j < length rows.now →
+        width ≤ length (slice_index_or rows.now j []) }
     ensures { IfOk result (λ r. AreRests start width rows.now r.items) }
 {
     let mut rests = Vec::with_capacity(alloc, rows.len() - start)?;
@@ -83,9 +84,10 @@ fn leads_from(
     Ok(places)
 }
 
-/// The combinations of the part's rows for which the same combination of the images of these is 0. Costs the elimination
-/// of as many rows of twice the width, each an image with its row after it: the rows of that echelon form whose leads come
-/// past the images are the kernel, in reduced echelon form (Cohen, A Course in Computational Algebraic Number Theory, 2.3).
+/// The combinations of the part's rows for which the same combination of the images of these is 0.
+/// Costs the elimination of as many rows of twice the width, each an image with its row after it:
+/// the rows of that echelon form whose leads come past the images are the kernel, in reduced
+/// echelon form (Cohen, A Course in Computational Algebraic Number Theory, 2.3).
 pub fn kernel_by_images(
     alloc: Global,
     field: Field,
@@ -109,8 +111,8 @@ pub fn kernel_by_images(
     Ok(basis_of(field, part.width(), kernel))
 }
 
-/// The vectors of the part that the matrix sends to 0. Costs a product of the matrix with each row of the part and the
-/// elimination of these images with their rows.
+/// The vectors of the part that the matrix sends to 0. Costs a product of the matrix with each row
+/// of the part and the elimination of these images with their rows.
 pub fn kernel_on(alloc: Global, field: Field, mat: &Mat, part: &Basis) -> Result<Basis, OutOfMemory>
     requires field { part.now.characteristic ≡ field }
     requires matrix { IsMatrix field mat.now }

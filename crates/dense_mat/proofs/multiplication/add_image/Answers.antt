@@ -11,7 +11,8 @@ pub loop-j-preserved : goal.loop-j-preserved
 loop-j-preserved c =
     let within : c.loop-j.j < length c.args.mat.now = omega (arith, c.loop-j-test.true, c.size-j-end.ensures, c.loop-j.auto.j-end) in
     record {
-      sum = image_more c.args.field c.args.mat.now c.args.v.now (dense c.args.field c.args.acc.now) (dense c.args.field c.loop-j.acc) (dense c.args.field c.axpy.new.acc) c.loop-j.j _ _ within refl c.column.ensures.numbers c.loop-j.invariant.sum c.axpy.ensures.sum;
+      sum = image_more c.args.field c.args.mat.now c.args.v.now (dense c.args.field c.args.acc.now) (dense c.args.field c.loop-j.acc)
+          (dense c.args.field c.axpy.new.acc) c.loop-j.j _ _ within refl c.column.ensures.numbers c.loop-j.invariant.sum c.axpy.ensures.sum;
       residues = c.axpy.ensures.residues;
       length = c.axpy.auto.acc ∙ c.loop-j.invariant.length;
     }

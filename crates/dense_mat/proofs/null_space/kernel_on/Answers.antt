@@ -6,5 +6,7 @@ use Rattle.dense_mat.proofs.Images.{basis_of-kernel}
 use Rattle.dense_mat.proofs.null_space.kernel_on.Goals as goal
 
 pub returns : goal.returns
-returns c = IfOk-weaker c.kernel_by_images.result _ _ (λ b h. basis_of-kernel c.args.field c.args.part.now.width 1 (dense_rows c.args.field c.args.mat.now) (dense_rows c.args.field c.args.part.now.rows) _
-    (c.in_ok-images.ensures.images ∙ ap (λ rows. map (apply (dense_rows c.args.field c.args.mat.now)) (dense_rows c.args.field rows)) c.rows.ensures.rows) b h) (rw c.deref.ensures.value at c.kernel_by_images.ensures)
+returns c = IfOk-weaker c.kernel_by_images.result _ _ (λ b h. basis_of-kernel c.args.field c.args.part.now.width 1
+    (dense_rows c.args.field c.args.mat.now) (dense_rows c.args.field c.args.part.now.rows) _
+    (c.in_ok-images.ensures.images ∙ ap (λ rows. map (apply (dense_rows c.args.field c.args.mat.now)) (dense_rows c.args.field rows))
+    c.rows.ensures.rows) b h) (rw c.deref.ensures.value at c.kernel_by_images.ensures)
