@@ -29,7 +29,7 @@ get_or-hits N L k i d l =
     ∙ ap (λ j. (j, 1)) (get_or-map (image_number N k) L i d 0 l)
 
 -- their sum counts the images
-sparse-hits : (p N : ℕ) (L : List Matrix) (k : ℕ) → sparse p (hits N L k) ≡ symbol_sum N L k
+pub sparse-hits : (p N : ℕ) (L : List Matrix) (k : ℕ) → sparse p (hits N L k) ≡ symbol_sum N L k
 unfolding symbol_sum
 sparse-hits p N L k = λ i j. sparse-ones p 1 (images N L k) j refl i
 

@@ -2,3 +2,4 @@ pub mod Sums
 pub mod Spaces
 pub mod SymbolRows
 pub mod Unique
+pub mod Maps
