@@ -14,6 +14,7 @@ mod multiplication;
 mod null_space;
 #[cfg(test)]
 mod tests;
+mod trace;
 
 pub use basis::{Basis, independent, span_of, whole_space};
 pub use image::image_on;
