@@ -10,7 +10,8 @@ ghost use Rattle.quotient_coords.specs.Quotient.{HasCoordinates, HasKeptCoeffici
 use crate::certificate::{Certificate, adds_up, is_in_range};
 use crate::coordinates::lifted_terms;
 use crate::free_symbols::places_without_pivot;
-use crate::symbol_table::{combination_of_rows, symbol_rows};
+use crate::row_sums::combination_of_rows;
+use crate::symbol_table::symbol_rows;
 use field_table::{Combo, Field, OutOfMemory, PlaceTable, Residues};
 use manin_relations::Relations;
 use p1_normal::Level;
@@ -104,8 +105,8 @@ impl Space {
     }
 
     /// The coordinates of a combination of symbols: the one list of d residues by which the combination
-    /// of the free symbols is congruent to it. Costs a pass over d numbers, and one over the coordinates
-    /// other than 0 of each symbol that a term names.
+    /// of the free symbols is congruent to it. Costs a pass over d numbers with a reduction for each, and
+    /// one product for each coordinate other than 0 of each symbol that a term names, in sums of 64 bits.
     pub fn coords(&self, alloc: Global, combo: &Combo) -> Result<Residues, OutOfMemory>
         requires places { HasPlacesBelow (length (symbols self.now.level)) combo.now }
         requires residues { HasResidues self.now.characteristic combo.now }

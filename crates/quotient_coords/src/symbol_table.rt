@@ -1,19 +1,15 @@
-ghost use Rattle.std.specs.Prelude.{◌≡◌, ◌<◌, ℕ, All, IfOk, length};
-ghost use Rattle.field_table.specs.Residues.{AreResidues, HasResidues};
-ghost use Rattle.field_table.specs.Terms.{HasPlacesBelow};
-ghost use Rattle.linear_algebra.specs.Dense.{dense};
+ghost use Rattle.std.specs.Prelude.{◌≡◌, ◌<◌, ℕ, IfOk};
 ghost use Rattle.linear_algebra.specs.Prime.{IsPrime};
-ghost use Rattle.linear_algebra.specs.Sparse.{sparse, sparse_rows};
 ghost use Rattle.linear_algebra.specs.Span.{Each};
-ghost use Rattle.linear_algebra.specs.Vector.{◌⊞◌, EndsBefore, combination};
+ghost use Rattle.linear_algebra.specs.Vector.{EndsBefore};
 ghost use Rattle.linear_algebra.specs.Coordinates.{free_places};
 ghost use Rattle.sparse_echelon.specs.System.{vectors};
 ghost use Rattle.quotient_coords.specs.Tables.{AreSymbolRows, IsSpace, IsSymbolRow};
 
 use crate::coordinates::negated;
-use field_table::{Combo, Field, OutOfMemory, PlaceTable, axpy_sparse};
+use field_table::{Combo, Field, OutOfMemory, PlaceTable};
 use sparse_echelon::Echelon;
-use std::alloc::{AllocError, Global};
+use std::alloc::Global;
 
 // The coordinates of a symbol, as terms over the numbers of the free symbols.
 fn symbol_row(
@@ -59,42 +55,4 @@ pub fn symbol_rows(
         rows.push(symbol_row(alloc, field, echelon, free, symbol)?)?;
     }
     Ok(rows)
-}
-
-// Adds the row of each term's place times the term's number.
-fn add_rows(field: Field, rows: &[Combo], terms: &[(u32, u32)], values: &mut [u32])
-    requires places { HasPlacesBelow (length rows.now) terms.now }
-    requires residues { HasResidues field terms.now }
-    requires row_places { All (HasPlacesBelow (length values.old)) rows.now }
-    requires row_residues { All (HasResidues field) rows.now }
-    requires values { AreResidues field values.old }
-    ensures sum { dense field values.new
-        ≡ dense field values.old ⊞ combination (sparse field terms.now) (sparse_rows field rows.now) }
-    ensures residues { AreResidues field values.new }
-{
-    for term in terms {
-        axpy_sparse(field, values, term.1, rows[term.0 as usize].terms());
-    }
-}
-
-/// The combination of the rows with these terms, as a list of numbers.
-pub fn combination_of_rows(
-    alloc: Global,
-    field: Field,
-    rows: &[Combo],
-    terms: &[(u32, u32)],
-    width: u32,
-) -> Result<Vec<u32>, AllocError>
-    requires places { HasPlacesBelow (length rows.now) terms.now }
-    requires residues { HasResidues field terms.now }
-    requires row_places { All (HasPlacesBelow width) rows.now }
-    requires row_residues { All (HasResidues field) rows.now }
-    ensures count { IfOk result (λ v. length v.items ≡ width) }
-    ensures sum { IfOk result (λ v.
-        dense field v.items ≡ combination (sparse field terms.now) (sparse_rows field rows.now)) }
-    ensures residues { IfOk result (λ v. AreResidues field v.items) }
-{
-    let mut values = vec![in alloc; 0; width as usize]?;
-    add_rows(field, rows, terms, &mut values);
-    Ok(values)
 }
