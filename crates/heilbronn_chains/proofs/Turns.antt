@@ -70,10 +70,10 @@ steps_on n m k some h f =
 
 -- ---- turns and shears act on the numbers of symbols
 -- a matrix of determinant 1
-invertible_one : (N : ℕ) (m : Matrix) → determinant m ≡ pos 1 → IsInvertible N m
+pub invertible_one : (N : ℕ) (m : Matrix) → determinant m ≡ pos 1 → IsInvertible N m
 invertible_one N m e = subst (λ z. gcd (residue_of N z) N ≡ 1) (sym e) (invertible_s N)
 
-determinant-turn : (q : ℤ) → determinant (turn q) ≡ pos 1
+pub determinant-turn : (q : ℤ) → determinant (turn q) ≡ pos 1
 determinant-turn q = ap (λ w. w -ℤ pos 1 *ℤ negsuc 0) (*ℤ-zero q)
 
 determinant-shear : (z : ℤ) → determinant (shear z) ≡ pos 1
