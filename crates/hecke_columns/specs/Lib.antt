@@ -1,1 +1,2 @@
 pub mod Hecke
+pub mod Chains

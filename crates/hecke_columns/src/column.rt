@@ -1,11 +1,13 @@
-ghost use Rattle.std.specs.Prelude.{◌≡◌, ◌<◌, IfOk, length};
+ghost use Rattle.std.specs.Prelude.{◌≡◌, ◌<◌, ◌≤◌, IfOk, length};
 ghost use Rattle.field_table.specs.Residues.{AreResidues};
 ghost use Rattle.heilbronn_sets.specs.Merel.{merel_matrices};
+ghost use Rattle.p1_normal.specs.declared.matrix.TheConstants.{MAX_DET};
 ghost use Rattle.p1_normal.specs.Points.{symbols};
 ghost use Rattle.p1_normal.specs.Units.{gcd};
 ghost use Rattle.quotient_coords.specs.Quotient.{dimension};
 ghost use Rattle.hecke_columns.specs.Hecke.{IsHeckeColumn};
 
+use crate::chains::column_by_chains;
 use crate::sum::column_of;
 use field_table::{OutOfMemory, Residues};
 use heilbronn_sets::MatrixSet;
@@ -56,6 +58,29 @@ impl Column {
             modulus: space.level().modulus(),
             characteristic: space.field().characteristic(),
             n: set.det(),
+            symbol: k,
+            coords,
+        })
+    }
+
+    /// Computes the column of symbol k over Merel's set of determinant n, and walks the set's chains in place of
+    /// storing it. Takes the starts of the chains, as many matrices as the divisors of n add up to. Costs two
+    /// divisions and an image of the symbol for each matrix, and then what `column_of` costs after its count.
+    pub fn by_chains(alloc: Global, space: &Space, n: u32, k: u32) -> Result<Column, OutOfMemory>
+        requires place { k < length (symbols space.now.level) }
+        requires some { 0 < n }
+        requires limit { n ≤ MAX_DET }
+        requires coprime { gcd n space.now.level ≡ 1 }
+        ensures space { IfOk result (λ c. (c.modulus ≡ space.now.level) × (c.characteristic ≡ space.now.characteristic)) }
+        ensures n { IfOk result (λ c. c.n ≡ n) }
+        ensures symbol { IfOk result (λ c. c.symbol ≡ k) }
+        ensures column { IfOk result IsHeckeColumn }
+    {
+        let coords = column_by_chains(alloc, space, n, k)?;
+        Ok(Column {
+            modulus: space.level().modulus(),
+            characteristic: space.field().characteristic(),
+            n,
             symbol: k,
             coords,
         })

@@ -2,6 +2,7 @@
 //! columns.
 #![tactic(auto)]
 
+mod chains;
 mod column;
 mod laws;
 mod local;
