@@ -81,7 +81,7 @@ counted_more N p n k i items old counts new e l h a = record {
       (symbol_sum N a.chain k)
       ∙ ap (λ v. dense p old ⊞ v) (sym (symbol_sum-append p N (flat_map (λ ms. ms) h.chains) a.chain k)
       ∙ ap (λ ms. symbol_sum N ms k) (ap (λ xs. flat_map (λ ms. ms) h.chains ++ xs) (sym (append-nil a.chain))
-          ∙ sym (flat_map-append (λ ms. ms) h.chains (a.chain ∷ []))));
+      ∙ sym (flat_map-append (λ ms. ms) h.chains (a.chain ∷ []))));
 }
 
 pub counted_all : (N p n k i : ℕ) (items : List Matrix) (old counts : List ℕ) → items ≡ starts n → length items ≤ i → PartCounted N p n k i old counts

@@ -4,3 +4,6 @@ pub mod Sums
 pub mod Columns
 pub mod Permuted
 pub mod ChainSums
+pub mod TurnTables
+pub mod StepLists
+pub mod StepSums

@@ -1,2 +1,4 @@
 pub mod Hecke
 pub mod Chains
+pub mod Turns
+pub mod Steps

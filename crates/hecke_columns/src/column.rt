@@ -8,7 +8,10 @@ ghost use Rattle.quotient_coords.specs.Quotient.{dimension};
 ghost use Rattle.hecke_columns.specs.Hecke.{IsHeckeColumn};
 
 use crate::chains::column_by_chains;
+use crate::steps::Steps;
 use crate::sum::column_of;
+use crate::turns::Turns;
+use crate::walk::column_by_turns;
 use field_table::{OutOfMemory, Residues};
 use heilbronn_sets::MatrixSet;
 use quotient_coords::Space;
@@ -81,6 +84,35 @@ impl Column {
             modulus: space.level().modulus(),
             characteristic: space.field().characteristic(),
             n,
+            symbol: k,
+            coords,
+        })
+    }
+
+    /// Computes the column of symbol k over Merel's set whose chains the steps walk, with a table of turns of
+    /// the level: an image of the symbol for each chain, and a look-up for each other matrix, or an image where
+    /// its step is past the limit of the table. Then it costs what `column_of` costs after its count. All
+    /// columns of one n share the steps, and all columns of a level the table.
+    pub fn by_turns(
+        alloc: Global,
+        space: &Space,
+        turns: &Turns,
+        steps: &Steps,
+        k: u32,
+    ) -> Result<Column, OutOfMemory>
+        requires table { turns.now.level ≡ space.now.level }
+        requires place { k < length (symbols space.now.level) }
+        requires coprime { gcd steps.now space.now.level ≡ 1 }
+        ensures space { IfOk result (λ c. (c.modulus ≡ space.now.level) × (c.characteristic ≡ space.now.characteristic)) }
+        ensures n { IfOk result (λ c. c.n ≡ steps.now) }
+        ensures symbol { IfOk result (λ c. c.symbol ≡ k) }
+        ensures column { IfOk result IsHeckeColumn }
+    {
+        let coords = column_by_turns(alloc, space, turns, steps, k)?;
+        Ok(Column {
+            modulus: space.level().modulus(),
+            characteristic: space.field().characteristic(),
+            n: steps.n(),
             symbol: k,
             coords,
         })

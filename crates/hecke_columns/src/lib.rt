@@ -7,12 +7,17 @@ mod column;
 mod laws;
 mod local;
 mod source;
+mod steps;
 mod sum;
 #[cfg(test)]
 mod tests;
+mod turns;
+mod walk;
 
 pub use column::Column;
 pub use laws::{columns_add_up, sums_are_linear};
 pub use local::LocalColumns;
 pub use source::ColumnSource;
+pub use steps::Steps;
 pub use sum::column_of;
+pub use turns::Turns;

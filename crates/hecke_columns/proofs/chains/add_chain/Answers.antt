@@ -33,8 +33,13 @@ loop-matrix-preserved c = record {
   counted = count_goes_on c.args.level.now c.args.field (degree c.args.start) c.args.k c.args.start c.loop-matrix.last c.in-Some.matrix
       c.args.counts.now c.loop-matrix.counts c.act-hit-in-Some.result c.add-in-Some.result
       (member_after c.loop-matrix.invariant.counted c.in-Some.ensures.next) c.act-hit-in-Some.ensures.number
-          (omega (arith, c.loop-matrix.auto.counts, length-set c.args.counts.now c.act-hit.result c.add.result, c.act-hit-in-Some.ensures.below,
-          c.requires.count)) c.add-in-Some.ensures.value c.loop-matrix.invariant.counted;
+      (omega (
+        arith,
+        c.loop-matrix.auto.counts,
+        length-set c.args.counts.now c.act-hit.result c.add.result,
+        c.act-hit-in-Some.ensures.below,
+        c.requires.count,
+      )) c.add-in-Some.ensures.value c.loop-matrix.invariant.counted;
   residues = All-set (λ x. x < c.args.field) c.loop-matrix.counts c.act-hit-in-Some.result c.add-in-Some.result c.add-in-Some.ensures.below
       c.loop-matrix.invariant.residues;
 }

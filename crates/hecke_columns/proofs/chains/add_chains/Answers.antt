@@ -28,7 +28,7 @@ pub add_chain-requires-clause-coprime : goal.add_chain-requires-clause-coprime
 add_chain-requires-clause-coprime c =
     start_coprime c.args.level.now c.args.n c.loop-start.start-index c.deref-start-items.result.now
     (start_at c.args.n c.loop-start.start-index c.deref-start-items.result.now c.requires.some c.requires.limit c.loop-start.invariant.starts
-        c.loop-start-test.true) c.requires.coprime
+    c.loop-start-test.true) c.requires.coprime
 
 pub loop-start-preserved : goal.loop-start-preserved
 loop-start-preserved c =
@@ -41,6 +41,6 @@ loop-start-preserved c =
       part = counted_more c.args.level.now c.args.field n c.args.k i items c.args.counts.now c.loop-start.counts c.add_chain.new.counts
           c.loop-start.invariant.starts c.loop-start-test.true c.loop-start.invariant.part
           (subst (λ d. AddsChainSum c.args.level.now c.args.field d c.args.k (get_or items i zero_matrix) c.loop-start.counts c.add_chain.new.counts)
-              start.degree_is c.add_chain.ensures.sum);
+          start.degree_is c.add_chain.ensures.sum);
       residues = c.add_chain.ensures.residues;
     }

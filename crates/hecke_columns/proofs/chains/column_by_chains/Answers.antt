@@ -12,13 +12,13 @@ pub returns : goal.returns
 returns c =
     let p = c.args.space.now.characteristic in
     let left : c.deref.result.now ≡ c.add_chains.new.counts = c.deref.ensures.value
-            ∙ with_items_is c.in_ok-counts.counts c.add_chains.new.counts
-            (omega (arith, c.in_ok-counts.counts.ok.0, c.add_chains.auto.counts, ap (λ xs. length xs) c.deref_mut.ensures.value)) in
+    ∙ with_items_is c.in_ok-counts.counts c.add_chains.new.counts
+    (omega (arith, c.in_ok-counts.counts.ok.0, c.add_chains.auto.counts, ap (λ xs. length xs) c.deref_mut.ensures.value)) in
     let start : c.deref_mut.result.now ≡ replicate c.count.result 0 = c.deref_mut.ensures.value
-            ∙ c.in_ok-counts.ensures.items_if_clones_equal (search rules) in
+    ∙ c.in_ok-counts.ensures.items_if_clones_equal (search rules) in
     IfOk-weaker c.coords.result (HasCoordinates c.args.space.now c.in_ok-combo.combo) (IsColumn c.args.space.now (merel_matrices c.args.n) c.args.k)
     (λ values h. IsColumn-from_chains c.args.space.now c.args.n c.args.k c.count.result c.add_chains.new.counts c.in_ok-combo.combo values
-        c.requires.place c.requires.some
+    c.requires.place c.requires.some
     (rw (start, c.field.ensures, c.level-level.ensures) at c.in_ok-add_chains.ensures.sums)
     (c.in_ok-combo.ensures.vector p ∙ ap (dense p) left) h)
     c.coords.ensures
