@@ -34,7 +34,7 @@ use Rattle.quotient_coords.specs.Tables.{IsSpace, IsSymbolRow, AreSymbolRows}
 use Rattle.quotient_coords.proofs.Spaces.{free_symbols_rising, positive_of, space_characteristic, space_width}
 
 -- the combination of rows with one term is a multiple of the row at its place
-combination-single : (p : ℕ) (rows : List (List (ℕ × ℕ))) (k a : ℕ) → k < length rows
+pub combination-single : (p : ℕ) (rows : List (List (ℕ × ℕ))) (k a : ℕ) → k < length rows
     → combination (single p k a) (sparse_rows p rows) ≡ residue p a ⊡ sparse p (get_or rows k [])
 combination-single p rows k a l =
     ap (λ v. combination v (sparse_rows p rows)) (sym (scale-unit p k a)) ∙ combination-scale (residue p a) (unit k) (sparse_rows p rows)

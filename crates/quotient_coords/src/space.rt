@@ -2,15 +2,16 @@ ghost use Rattle.std.specs.Prelude.{◌≡◌, ◌<◌, ◌≤◌, ◌*◌, ◌�
 ghost use Rattle.field_table.specs.Residues.{AreResidues, HasResidues};
 ghost use Rattle.field_table.specs.Terms.{HasPlacesBelow};
 ghost use Rattle.linear_algebra.specs.Coordinates.{IsKeptList};
+ghost use Rattle.linear_algebra.specs.Dense.{dense};
 ghost use Rattle.linear_algebra.specs.Sparse.{sparse};
 ghost use Rattle.manin_relations.specs.Relations.{relations};
 ghost use Rattle.p1_normal.specs.Points.{symbols};
-ghost use Rattle.quotient_coords.specs.Quotient.{HasCoordinates, HasKeptCoefficients, IsCertificate, dimension, free_symbols, lifted};
+ghost use Rattle.quotient_coords.specs.Quotient.{AreCoordinates, HasCoordinates, HasKeptCoefficients, IsCertificate, dimension, free_symbols, lifted};
 
 use crate::certificate::{Certificate, adds_up, is_in_range};
 use crate::coordinates::lifted_terms;
 use crate::free_symbols::places_without_pivot;
-use crate::row_sums::combination_of_rows;
+use crate::row_sums::{combination_of_counts, combination_of_rows};
 use crate::symbol_table::symbol_rows;
 use field_table::{Combo, Field, OutOfMemory, PlaceTable, Residues};
 use manin_relations::Relations;
@@ -112,11 +113,38 @@ impl Space {
         requires residues { HasResidues self.now.characteristic combo.now }
         ensures { IfOk result (HasCoordinates self.now combo.now) }
     {
+        self.coords_of_terms(alloc, combo.terms())
+    }
+
+    /// The coordinates of a sum of terms in any order, repeats included. Costs what `coords` costs.
+    pub fn coords_of_terms(
+        &self,
+        alloc: Global,
+        terms: &[(u32, u32)],
+    ) -> Result<Residues, OutOfMemory>
+        requires { HasPlacesBelow (length (symbols self.now.level)) terms.now }
+        ensures { IfOk result (HasCoordinates self.now terms.now) }
+    {
         Ok(Residues::of(combination_of_rows(
             alloc,
             self.field,
             self.rows.as_slice(),
-            combo.terms(),
+            terms,
+            self.dim(),
+        )?))
+    }
+
+    /// The coordinates of the combination with these m coefficients, which need be no residues. Costs what
+    /// `coords` costs, and a pass over m numbers.
+    pub fn coords_of_counts(&self, alloc: Global, counts: &[u32]) -> Result<Residues, OutOfMemory>
+        requires { length counts.now ≡ length (symbols self.now.level) }
+        ensures { IfOk result (AreCoordinates self.now.level (dense self.now.characteristic counts.now)) }
+    {
+        Ok(Residues::of(combination_of_counts(
+            alloc,
+            self.field,
+            self.rows.as_slice(),
+            counts,
             self.dim(),
         )?))
     }
