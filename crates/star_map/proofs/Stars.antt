@@ -35,7 +35,7 @@ use Rattle.manin_relations.proofs.RelationLaws.{length-relations, row-relations,
 use Rattle.star_map.specs.Star.{star, star_terms}
 
 -- the symbols (-u:v), in order
-abbrev star_symbols : {p : ℕ} → ℕ → List (Vector p)
+abbrev pub star_symbols : {p : ℕ} → ℕ → List (Vector p)
 star_symbols N = map (λ k. unit (image_number N k matrix_star)) (range_with_len 0 (length (symbols N)))
 
 pub star-plus : {p : ℕ} (N : ℕ) (x y : Vector p) → star N (x ⊞ y) ≡ star N x ⊞ star N y
