@@ -6,3 +6,5 @@ pub mod Parts
 pub mod Wholes
 pub mod Unique
 pub mod FirstDifferences
+pub mod Versions
+pub mod VersionSplittings

@@ -13,7 +13,7 @@ use Rattle.split_state.specs.Decomposition.{Decomposition}
 use Rattle.split_state.specs.Step.{IsPartOf, part, nothing, SplitBy, done, next, Listing, known, new, IsStep}
 
 -- one part
-part_once : (p d : ℕ) → IsPrime p → (P : Vector p → Type 0) {xs ys : List Subspace} → IsPartOf p d P xs → IsPartOf p d P ys → xs ≡ ys
+pub part_once : (p d : ℕ) → IsPrime p → (P : Vector p → Type 0) {xs ys : List Subspace} → IsPartOf p d P xs → IsPartOf p d P ys → xs ≡ ys
 part_once p d prime P (part {b = b} h n) (part {b = c} g k) = ap (λ x. x ∷ []) (basis_once p d P b c prime h g)
 part_once p d prime P (part h n) (nothing z) = absurd (n.nonzero (z n.vector (h.only n.vector n.inside)))
 part_once p d prime P (nothing z) (part h n) = absurd (n.nonzero (z n.vector (h.only n.vector n.inside)))

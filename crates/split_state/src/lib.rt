@@ -10,5 +10,8 @@ mod refining;
 mod splitting;
 
 pub use fault::RefineFault;
-pub use laws::{first_differences_are_unique, steps_are_unique, steps_keep_splittings};
+pub use laws::{
+    first_differences_are_unique, steps_are_unique, steps_keep_splittings, versions_are_splittings,
+    versions_are_unique, versions_grow_by_steps, versions_list_operators,
+};
 pub use splitting::Splitting;
