@@ -1,5 +1,8 @@
 -- A step by an operator that commutes with the listed ones keeps all facts of a splitting.
-use Rattle.std.proofs.Common.{◌≡◌, ◌+◌, ◌<◌, ℕ, zero, suc, List, [], ◌∷◌, ◌++◌, length, length-append, get_or, map, sym, ◌∙◌, subst, arith}
+use Rattle.std.proofs.Math.ListN.{get_or-append}
+use Rattle.std.proofs.lemmas.Bool.{cases_lt}
+use Rattle.std.proofs.lemmas.List.{get_or_push}
+use Rattle.std.proofs.Common.{◌≡◌, ◌⊎◌, ◌+◌, ◌<◌, ◌≤◌, inl, inr, ℕ, zero, suc, List, [], ◌∷◌, ◌++◌, length, length-append, get_or, map, sym, ◌∙◌, subst, arith}
 use Rattle.op_polynomials.specs.declared.name.OpName.{OpName}
 use Rattle.field_table.proofs.TableFacts.{listed_prime}
 use Rattle.linear_algebra.specs.Prime.{IsPrime}
@@ -153,3 +156,18 @@ step_keeps s r op m f h sized central matches step = subst IsSplitting same
 -- and it refines the old one
 pub step_refines : (s r : Decomposition) (op : OpName) (m : List (List ℕ)) (f : List ℕ) → IsStep s op m f r → Refines r s
 step_refines s r op m f step = split_lies step.parts
+
+-- and lists the matrix that it is made with
+pub step_matches : (s r : Decomposition) (op : OpName) (m : List (List ℕ)) (f : List ℕ) → IsSplitting s → MatchesListed s op m → IsStep s op m f r
+    → MatchesListed r op m
+step_matches s r op m f h matches step = at step.operators
+  where
+    at : {names : List OpName} {matrices : List (List (List ℕ))} → Listing s.names s.matrices op m names matrices
+        → (k : ℕ) → k < length names → get_or names k op ≡ op → get_or matrices k [] ≡ m
+    at (known there) k l e = matches k l e
+    at (new absent) k l e = last k (omega (arith, l, length-append s.names (op ∷ []))) e (cases_lt k (length s.names))
+      where
+        last : (k : ℕ) → k < length s.names + 1 → get_or (s.names ++ (op ∷ [])) k op ≡ op → (k < length s.names) ⊎ (length s.names ≤ k)
+            → get_or (s.matrices ++ (m ∷ [])) k [] ≡ m
+        last k l e (inl u) = absurd (absent (k, u, sym (get_or-append s.names (op ∷ []) op k u) ∙ e))
+        last k l e (inr u) = get_or_push s.matrices m [] k (omega (arith, h.many))

@@ -40,7 +40,7 @@ listed_commute g ops s same h op m is commute = each_from_places (λ o. Commute 
     (commute (get_or s.names k Star) ((h.named (get_or s.names k Star)).0 (Contains-get_or s.names k Star w)) m (get_or s.matrices k []) is (h.matrix k w)))
 
 -- the whole space is a splitting
-whole_splitting : (p d : ℕ) → IsListed p → (s : Decomposition) → IsWhole p d s → IsSplitting s
+pub whole_splitting : (p d : ℕ) → IsListed p → (s : Decomposition) → IsWhole p d s → IsSplitting s
 whole_splitting p d listed s w = subst IsSplitting same (whole_splits p d listed s.parts w.parts)
   where
     same : decomposition p d s.parts [] [] ≡ s

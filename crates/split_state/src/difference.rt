@@ -61,7 +61,8 @@ fn column_difference(
     Ok(first_unequal(a.size(), left.as_slice(), right.as_slice()))
 }
 
-// The first place at which the products of two matrices in both orders differ, and their entries there.
+// The first place at which the products of two matrices in both orders differ, and their entries
+// there.
 #[derive(Clone, Copy)]
 struct Difference {
     row: u32,
@@ -98,9 +99,9 @@ fn matrix_difference(
     Ok(None)
 }
 
-/// Tests whether the matrix commutes with each listed one, in their order and column by column, and
-/// refuses the first difference. Costs two products of a matrix and a vector for each column of each
-/// listed matrix up to it.
+/// Tests whether the matrix commutes with each listed one, in their order and column by column,
+/// and refuses the first difference. Costs two products of a matrix and a vector for each column
+/// of each listed matrix up to it.
 pub fn commuting(
     alloc: Global,
     field: Field,

@@ -8,10 +8,10 @@ use thiserror::Error;
 pub enum RefineFault {
     #[error("out of memory")]
     OutOfMemory,
-    /// The products of the matrix and that of the listed operator `other` differ first in this column
-    /// and row, both numbered from 0: `left` is the entry of matrix times listed, `right` that of
-    /// listed times matrix.
-    #[error("{left} and {right} stand in row {row} of column {column} of the products with a listed matrix")]
+    /// The products of the matrix and that of the listed operator `other` differ first in this
+    /// column and row, both numbered from 0: `left` is the entry of matrix times listed, `right`
+    /// that of listed times matrix.
+    #[error("products with a listed matrix differ in row {row} of column {column}: {left}, {right}")]
     Commutator {
         other: OpName,
         row: u32,

@@ -10,13 +10,15 @@ ghost use Rattle.split_state.specs.Refinement.{Refines};
 ghost use Rattle.split_state.specs.Step.{IsStep, IsWhole};
 ghost use Rattle.split_state.specs.Versions.{IsEntryStep, IsOperatorMatrix, IsVersion, ListsOperators, OperatorsCommute};
 
-/// A step by an operator that commutes with every listed one, and is the listed one where its name is
-/// listed, makes a splitting of a splitting; and every step refines.
+/// A step by an operator that commutes with every listed one, and is the listed one where its name
+/// is listed, makes a splitting of a splitting, in which it is the listed one; and every step refines.
 pub fn steps_keep_splittings()
     ensures law { (s r : Decomposition) (op : OpName) (m : List (List ℕ)) (f : List ℕ) →
         IsSplitting s → IsSized s.characteristic s.dim m →
         Centralises s.characteristic s.matrices (dense_rows s.characteristic m) →
         MatchesListed s op m → IsStep s op m f r → IsSplitting r }
+    ensures matches { (s r : Decomposition) (op : OpName) (m : List (List ℕ)) (f : List ℕ) →
+        IsSplitting s → MatchesListed s op m → IsStep s op m f r → MatchesListed r op m }
     ensures refines { (s r : Decomposition) (op : OpName) (m : List (List ℕ)) (f : List ℕ) →
         IsStep s op m f r → Refines r s }
 {}
@@ -29,8 +31,8 @@ pub fn steps_are_unique()
 {}
 
 /// A matrix has one first difference from the listed operators of a splitting: one operator, row,
-/// column and pair of entries; and none where its products with each agree, in which case it commutes
-/// with each.
+/// column and pair of entries; and none where its products with each agree, in which case it
+/// commutes with each.
 pub fn first_differences_are_unique()
     ensures law { (s : Decomposition) (a : List (List ℕ)) (op other : OpName)
         (i j x y k l z w : ℕ) → IsSplitting s → IsFirstDifference s a op i j x y →
@@ -47,24 +49,25 @@ pub fn first_differences_are_unique()
 pub fn versions_are_unique()
     ensures law { (g : Ground) (entries : List SplitEntry) (s t : Decomposition) →
         IsListed g.characteristic → IsVersion g entries s → IsVersion g entries t → s ≡ t }
-    ensures matrix { (g : Ground) (op : OpName) (m o : List (List ℕ)) → IsListed g.characteristic →
-        IsOperatorMatrix g op m → IsOperatorMatrix g op o → m ≡ o }
+    ensures matrix { (g : Ground) (op : OpName) (m o : List (List ℕ)) →
+        IsListed g.characteristic → IsOperatorMatrix g op m → IsOperatorMatrix g op o → m ≡ o }
 {}
 
-/// Without an entry the version is the whole space, and with one entry more at the end it is one step
-/// more.
+/// Without an entry the version is the whole space, and with one entry more at the end it is one
+/// step more.
 pub fn versions_grow_by_steps()
     ensures none { (g : Ground) (s : Decomposition) → IsVersion g [] s ↔
         IsWhole g.characteristic (dimension g.level g.characteristic) s }
-    ensures more { (g : Ground) (entries : List SplitEntry) (e : SplitEntry) (s r : Decomposition) →
-        IsVersion g entries s → IsEntryStep g s e r → IsVersion g (entries ++ e ∷ []) r }
-    ensures last { (g : Ground) (entries : List SplitEntry) (e : SplitEntry) (r : Decomposition) →
-        IsVersion g (entries ++ e ∷ []) r →
+    ensures more { (g : Ground) (entries : List SplitEntry) (e : SplitEntry)
+        (s r : Decomposition) → IsVersion g entries s → IsEntryStep g s e r → IsVersion g (entries ++ e ∷ []) r }
+    ensures last { (g : Ground) (entries : List SplitEntry) (e : SplitEntry)
+        (r : Decomposition) → IsVersion g (entries ++ e ∷ []) r →
         (s : Decomposition) × IsVersion g entries s × IsEntryStep g s e r }
 {}
 
-/// A version lists exactly the operators of its entries, each once and with its matrix. So the matrix
-/// of an operator is of its size, and the listed one where its name is listed: what a step asks for.
+/// A version lists exactly the operators of its entries, each once and with its matrix. So the
+/// matrix of an operator is of its size, and the listed one where its name is listed: what a step
+/// asks for.
 pub fn versions_list_operators()
     ensures operators { (g : Ground) (entries : List SplitEntry) (s : Decomposition) →
         IsVersion g entries s → ListsOperators g entries s }
@@ -80,15 +83,16 @@ pub fn versions_list_operators()
         IsOperatorMatrix g op m → MatchesListed s op m }
 {}
 
-/// The version of no entry is a splitting. Where the matrix of an entry's operator commutes with those
-/// that a version lists, the next version is a splitting with it, and it refines the version. So every
-/// version of entries whose operators commute is a splitting.
+/// The version of no entry is a splitting. Where the matrix of an entry's operator commutes with
+/// those that a version lists, the next version is a splitting with it, and it refines the version.
+/// So every version of entries whose operators commute is a splitting.
 pub fn versions_are_splittings()
     ensures none { (g : Ground) (s : Decomposition) → IsListed g.characteristic →
         IsVersion g [] s → IsSplitting s }
     ensures more { (g : Ground) (entries : List SplitEntry) (e : SplitEntry) (s r : Decomposition)
         (k : IsEntryStep g s e r) → IsListed g.characteristic → IsVersion g entries s →
-        IsSplitting s → Centralises s.characteristic s.matrices (dense_rows s.characteristic k.matrix) →
+        IsSplitting s →
+        Centralises s.characteristic s.matrices (dense_rows s.characteristic k.matrix) →
         IsSplitting r }
     ensures refines { (g : Ground) (e : SplitEntry) (s r : Decomposition) →
         IsEntryStep g s e r → Refines r s }

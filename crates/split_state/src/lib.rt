@@ -1,6 +1,6 @@
-//! Splittings of the space of vectors of one length into parts that commuting operators keep, and their
-//! refinement by a polynomial in one operator more. A splitting is a value that is never changed: each
-//! step makes a new one, or says where the new operator does not commute with a listed one.
+//! Splittings of the space of vectors of one length into parts that commuting operators keep, and
+//! their refinement by a polynomial in one operator more; and the versions that lists of such steps
+//! make of a space of modular symbols.
 #![tactic(auto)]
 
 mod difference;
@@ -8,6 +8,8 @@ mod fault;
 mod laws;
 mod refining;
 mod splitting;
+#[cfg(test)]
+mod tests;
 
 pub use fault::RefineFault;
 pub use laws::{

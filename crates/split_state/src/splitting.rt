@@ -104,7 +104,8 @@ fn refined(
         (decomposition field dim parts.now names.now matrices.now) mat.now) }
     ensures commutator { (other : OpName) (row column left right : ℕ) →
         IsErrOf result (RefineFault.Commutator other row column left right) → IsFirstDifference
-        (decomposition field dim parts.now names.now matrices.now) mat.now other row column left right }
+        (decomposition field dim parts.now names.now matrices.now) mat.now
+        other row column left right }
 {
     commuting(alloc, field, names, matrices, mat)?;
     let value = poly.at_matrix(alloc, field, mat)?;
@@ -116,8 +117,8 @@ fn refined(
 }
 
 impl Splitting {
-    /// The space of the vectors of length d as its own one part, or no part where d is 0. No operator
-    /// is listed. Costs the d rows of the identity.
+    /// The space of the vectors of length d as its one part, or no part where d is 0. No operator is
+    /// listed. Costs the d rows of the identity.
     pub fn whole(alloc: Global, field: Field, d: u32) -> Result<Splitting, OutOfMemory>
         ensures { IfOk result (IsWhole field d) }
     {
@@ -134,8 +135,8 @@ impl Splitting {
         self.dim
     }
 
-    /// The parts, in the order in which they were split, each by its reduced echelon basis. Takes no
-    /// memory.
+    /// The parts, in the order in which they were split, each by its reduced echelon basis. Takes
+    /// no memory.
     pub fn parts(&self) -> &[Basis]
         ensures parts { result.now ≡ self.now.parts }
         ensures splitting { IsSplitting self.now }
@@ -160,15 +161,16 @@ impl Splitting {
         Ok(splitting_of(self.field, self.dim, parts, names, matrices))
     }
 
-    /// The splitting in which each part is replaced by its generalised kernel and its eventual image
-    /// under f(A), in this order, A being the matrix and f the polynomial; parts with 0 alone are left
-    /// out, and the operator is listed at the end if its name is new. Refuses, by `Commutator`, the
-    /// first place by listed operators, then columns, then rows at which the products of A with a
-    /// listed matrix in both orders differ, with both entries. The splitting itself stays as it is.
+    /// The splitting in which each part is replaced by its generalised kernel and its eventual
+    /// image under f(A), in this order, A being the matrix and f the polynomial; parts with 0 alone
+    /// are left out, and the operator is listed at the end if its name is new. Refuses, by
+    /// `Commutator`, the first place by listed operators, then columns, then rows at which the
+    /// products of A with a listed matrix in both orders differ, with both entries. The splitting
+    /// itself stays as it is.
     ///
     /// Costs 2 d products of a matrix and a vector for each listed operator, as many products of
-    /// matrices as f has coefficients, less one, the elimination of each part under f(A), and a copy of
-    /// the listed matrices.
+    /// matrices as f has coefficients, less one, the elimination of each part under f(A), and a copy
+    /// of the listed matrices.
     pub fn refine(
         &self,
         alloc: Global,
