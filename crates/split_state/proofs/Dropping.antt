@@ -42,7 +42,7 @@ grow_sum (keeps r) (more {v = v} h c) = ap (λ w. v ⊞ w) (grow_sum r c)
 grow_sum {xs = xs} (drops zero_alone r) c = zeros-plus (vector_sum (grow r xs)) ∙ grow_sum r c
 
 -- equal lists have equal heads and tails
-heads : {A : Type 0} (x y : A) (xs ys : List A) → x ∷ xs ≡ y ∷ ys → (x ≡ y) × (xs ≡ ys)
+pub heads : {A : Type 0} (x y : A) (xs ys : List A) → x ∷ xs ≡ y ∷ ys → (x ≡ y) × (xs ≡ ys)
 heads x y xs ys e = (cc, cc)
 
 -- and tells the choice

@@ -4,6 +4,7 @@ pub mod Keeping
 pub mod Differences
 pub mod Parts
 pub mod Wholes
+pub mod Counting
 pub mod Unique
 pub mod FirstDifferences
 pub mod Versions

@@ -1,4 +1,4 @@
-ghost use Rattle.std.specs.Prelude.{◌≡◌, [], ℕ, IfOk, IsErrOf, length};
+ghost use Rattle.std.specs.Prelude.{◌≡◌, ◌≤◌, [], ℕ, IfOk, IsErrOf, length};
 ghost use Rattle.op_polynomials.specs.declared.name.OpName.{OpName};
 ghost use Rattle.dense_mat.specs.Matrix.{IsMatrix};
 ghost use Rattle.field_table.specs.Residues.{AreResidues};
@@ -140,6 +140,7 @@ impl Splitting {
     pub fn parts(&self) -> &[Basis]
         ensures parts { result.now ≡ self.now.parts }
         ensures splitting { IsSplitting self.now }
+        ensures few { length result.now ≤ self.now.dim }
     {
         &self.parts
     }
