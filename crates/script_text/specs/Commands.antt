@@ -3,11 +3,15 @@
 --   unless_limit l c         the limit that is broken, if one is, else the command
 --   command_by_form line w   what a line is read as that has the form of the command w, if of any
 --   command_of text          the command that a line is, or the first refusal that applies: its grammar is judged before any limit
---   IsWithin command             the numbers of matrices and of terms of a command are within their limits
+--   IsIndexed op                 the index n of an operator T_n is within its limits
+--   IsWithin command             the indices, terms, coefficients and coordinates of a command are within their limits
 --   AnswersCommand result read   the result is what is read, but where memory ran out
-use Rattle.std.specs.Prelude.{◌≡◌, ℕ, ◌<◌, ◌≤◌, pos, List, length, get_or, Option, Some, None, Result, Ok, Err}
+use Rattle.std.specs.Prelude.{◌≡◌, ℕ, ◌<◌, ◌≤◌, ◌^◌, pos, List, length, get_or, Option, Some, None, Result, Ok, Err}
 use Rattle.text_lines.specs.Lines.{tokens}
 use Rattle.p1_normal.specs.declared.matrix.TheConstants.{MAX_DET}
+use Rattle.op_polynomials.specs.declared.name.OpName.{OpName}
+use Rattle.op_polynomials.specs.declared.name.OpName.TheVariants as ops
+use Rattle.op_polynomials.specs.declared.poly.TheConstants.{MAX_COEFFICIENTS}
 use Rattle.script_text.specs.declared.limits.TheConstants.{MAX_TERMS}
 use Rattle.script_text.specs.declared.command.Command.{Command}
 use Rattle.script_text.specs.declared.command.Command.TheVariants as commands
@@ -48,12 +52,20 @@ command_by_form line (Some word) = unless_limit (limit_of (given_by word line)) 
 unfoldable pub command_of : List ℕ → Result Command CommandFault
 command_of text = command_by_form (tokens text) (form_of (tokens text))
 
+abbrev pub IsIndexed : OpName → Type 0
+IsIndexed (ops.T n) = (0 < n) × (n ≤ MAX_DET)
+IsIndexed ops.Star = Unit {0}
+
 abbrev pub IsWithin : Command → Type 0
 IsWithin (commands.Reduce terms) = length terms ≤ MAX_TERMS
 IsWithin (commands.Certify terms) = length terms ≤ MAX_TERMS
 IsWithin (commands.Image n terms) = (0 < n) × (n ≤ MAX_DET) × (length terms ≤ MAX_TERMS)
 IsWithin (commands.Star terms) = length terms ≤ MAX_TERMS
 IsWithin (commands.Boundary terms) = length terms ≤ MAX_TERMS
+IsWithin (commands.Operator op) = IsIndexed op
+IsWithin (commands.Apply op coords) = IsIndexed op × (length coords < 2 ^ 32)
+IsWithin (commands.Poly op coefficients coords) = IsIndexed op × (length coefficients ≤ MAX_COEFFICIENTS) × (length coords < 2 ^ 32)
+IsWithin (commands.Split op coefficients) = IsIndexed op × (length coefficients ≤ MAX_COEFFICIENTS)
 IsWithin (commands.Chains n) = (0 < n) × (n ≤ MAX_DET)
 IsWithin command = Unit {0}
 

@@ -1,6 +1,6 @@
 //! Reading the tokens of a command after its word.
 
-ghost use Rattle.std.specs.Prelude.{◌≡◌, ◌^◌, ◌-◌, ◌+◌, ◌≤◌, ◌<◌, length};
+ghost use Rattle.std.specs.Prelude.{◌≡◌, ◌^◌, ◌-◌, ◌+◌, ◌≤◌, ◌<◌, IfOk, length};
 ghost use Rattle.text_lines.specs.Lines.{tokens};
 ghost use Rattle.script_text.specs.Tokens.{nothing};
 ghost use Rattle.script_text.specs.Rows.{row};
@@ -28,8 +28,9 @@ fn next_item(kinds: &[Kind], repeated: Option<Kind>) -> (Option<Kind>, &[Kind])
 /// What the tokens after the word give.
 pub(crate) fn fields_of(alloc: Global, word: Word, line: &[u8]) -> Result<Fields, CommandFault>
     requires { length line.now < 2 ^ 32 - 2 }
-    ensures { Carries given result
+    ensures read { Carries given result
         (walk (row word).kinds (row word).repeated 2 nothing (tokens line.now)) }
+    ensures few { IfOk result (λ f. length f.integers.items < 2 ^ 32) }
 {
     let mut fields = no_fields(alloc);
     let mut to_come = kinds(word);

@@ -38,7 +38,7 @@ returns-in_err-fields c =
     record {
       read = rw (p.1, p.2) (subst (λ r. AnswersCommand (Err c.in_err-fields.field-0.0) r) (sym read)
           (refused c.in-Some-word_of.word c.in-Some.first.now (tokens c.in-Some.rest.now) c.in_err-fields.field-0.0
-          (c.in-Some-word_of.ensures {u = tt}) (c.in_err-fields.ensures {u = tt})));
+          (c.in-Some-word_of.ensures {u = tt}) (c.in_err-fields.ensures.read)));
       within = rw p.1 tt;
     }
 
@@ -51,7 +51,7 @@ returns-in-Some-broken_limit c =
           (c.in-Some.ensures {u = tt}).token
           ∙ past_limit c.in-Some-word_of.word c.in-Some.first.now (tokens c.in-Some.rest.now) (given c.in_ok-fields.fields)
           c.in-Some-broken_limit.what
-          (c.in-Some-word_of.ensures {u = tt}) (c.in_ok-fields.ensures {u = tt}) (c.in-Some-broken_limit.ensures {u = tt});
+          (c.in-Some-word_of.ensures {u = tt}) (c.in_ok-fields.ensures.read) (c.in-Some-broken_limit.ensures {u = tt});
       within = tt;
     }
 
@@ -63,8 +63,9 @@ returns c =
       read = command_of-tokens c.args.line.now.text c.as_slice-text.result.now (c.in-Some.first.now ∷ tokens c.in-Some.rest.now) same
           (c.in-Some.ensures {u = tt}).token
           ∙ accepted c.in-Some-word_of.word c.in-Some.first.now (tokens c.in-Some.rest.now) (given c.in_ok-fields.fields)
-          (c.in-Some-word_of.ensures {u = tt}) (c.in_ok-fields.ensures {u = tt}) (c.in_default-broken_limit.ensures {u = tt})
+          (c.in-Some-word_of.ensures {u = tt}) (c.in_ok-fields.ensures.read) (c.in_default-broken_limit.ensures {u = tt})
           ∙ ap (λ x. Ok x) (sym c.command_from.ensures);
       within = subst IsWithin (sym c.command_from.ensures)
-          (IsWithin-command c.in-Some-word_of.word (given c.in_ok-fields.fields) (sym (c.in_default-broken_limit.ensures {u = tt})));
+          (IsWithin-command c.in-Some-word_of.word (tokens c.in-Some.rest.now) (given c.in_ok-fields.fields)
+          (c.in_ok-fields.ensures.read) (c.in_ok-fields.ensures.few) (sym (c.in_default-broken_limit.ensures {u = tt})));
     }

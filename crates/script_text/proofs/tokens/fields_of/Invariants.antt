@@ -8,6 +8,7 @@ use Rattle.script_text.proofs.tokens.fields_of.Given as goal
 abbrev pub invariant-loop-token : goal.invariant-loop-token
 invariant-loop-token l = record {
   room : l.place + length l.rest ≤ 2 + length l.line;
+  few : length l.fields.integers.items + 2 ≤ l.place;
   ahead : walk l.to_come (row l.word).repeated l.place (given l.fields) (tokens l.rest)
       ≡ walk (row l.word).kinds (row l.word).repeated 2 nothing (tokens l.line);
 }
