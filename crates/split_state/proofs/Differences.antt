@@ -1,13 +1,16 @@
 -- Columns of the products of two matrices in both orders.
-use Rattle.std.proofs.Common.{◌≡◌, ◌⊎◌, ◌<◌, ◌≤◌, ℕ, List, [], length, slice_index, get_or, refl, sym, ◌∙◌, ap, subst, arith, inl, inr, Option, Some, None, MatchOption}
+use Rattle.std.proofs.Common.{Contains, ◌≡◌, ◌⊎◌, ◌<◌, ◌≤◌, ℕ, List, [], length, slice_index, get_or, refl, sym, ◌∙◌, ap, subst, arith, inl, inr, Option, Some, None, MatchOption}
 use Rattle.std.proofs.lemmas.Bool.{cases_lt}
 use Rattle.std.proofs.lemmas.List.Elements.{All-get_or}
 use Rattle.std.proofs.Math.ListN.{length-map}
 use Rattle.field_table.specs.Residues.{AreResidues}
+use Rattle.op_polynomials.specs.declared.name.OpName.{OpName}
+use Rattle.linear_algebra.specs.Coordinates.{unit}
 use Rattle.linear_algebra.specs.Residue.{residue}
 use Rattle.linear_algebra.specs.Vector.{Vector, EndsBefore}
 use Rattle.linear_algebra.specs.Dense.{dense, dense_rows}
 use Rattle.linear_algebra.specs.Span.{Each}
+use Rattle.linear_algebra.proofs.Elimination.{combination-unit}
 use Rattle.linear_algebra.proofs.DenseLaws.{dense_at, row-dense_rows}
 use Rattle.linear_algebra.proofs.Support.{EndsBefore-combination}
 use Rattle.linear_algebra.proofs.Rows.{same_rows}
@@ -16,6 +19,7 @@ use Rattle.dense_mat.proofs.Composites.{apply-product}
 use Rattle.dense_mat.proofs.Steps.{rows_end, length-dense_rows}
 use Rattle.split_state.specs.Decomposition.{IsSized, Centralises}
 use Rattle.split_state.specs.Difference.{column, Agree, AgreeAll, IsFirstUnequal, IsColumnDifference}
+use Rattle.split_state.proofs.Keeping.{Each-get_or}
 use Rattle.split_state.proofs.Steps.{row-image}
 use Rattle.linear_algebra.specs.Span.{none, more}
 use Rattle.std.proofs.Common.{suc, ◌∷◌, map}
@@ -82,6 +86,27 @@ pub agree_centralises : (p d : ℕ) (a : List (List ℕ)) → IsSized p d a → 
 agree_centralises p d a h [] none same = none
 agree_centralises p d a h (o ∷ matrices) (more g gs) same = more (agree_commute p d a o h g (same 0 (omega arith)))
     (agree_centralises p d a h matrices gs (λ k l. same (suc k) (omega arith)))
+
+-- a column is the image of a unit vector
+column_image : (p : ℕ) (m : List (List ℕ)) (j : ℕ) → j < length m → dense p (column m j) ≡ apply (dense_rows p m) (unit j)
+column_image p m j l = sym (row-dense_rows p m j l) ∙ sym (combination-unit (dense_rows p m) j (omega (arith, l, length-dense_rows p m)))
+
+-- matrices that commute have products that agree everywhere
+commute_agrees : (p : ℕ) (a o : List (List ℕ)) → length o ≡ length a → Commute (dense_rows p a) (dense_rows p o) → AgreeAll p a o
+commute_agrees p a o size h j l i k = ap (λ v. v i)
+    (ap (apply (dense_rows p a)) (column_image p o j (omega arith)) ∙ h.same (unit j) ∙ ap (apply (dense_rows p o)) (sym (column_image p a j l)))
+
+-- so a listed matrix agrees with each, where listed ones commute
+pub listed_agrees : (p : ℕ) (names : List OpName) (matrices : List (List (List ℕ))) (op : OpName) (m : List (List ℕ))
+    → length matrices ≡ length names → Each (IsSized p (length m)) matrices
+    → ((k : ℕ) → k < length names → get_or names k op ≡ op → get_or matrices k [] ≡ m)
+    → Each (λ o. Centralises p matrices (dense_rows p o)) matrices → Contains names op
+    → (j : ℕ) → j < length matrices → AgreeAll p m (get_or matrices j [])
+listed_agrees p names matrices op m many sized matches commute (k, l, e) j u =
+    let here : k < length matrices = omega (arith, many, l) in
+    let central : Centralises p matrices (dense_rows p m) =
+    subst (λ o. Centralises p matrices (dense_rows p o)) (matches k l e) (Each-get_or matrices k [] here commute) in
+    commute_agrees p m (get_or matrices j []) (Each-get_or matrices j [] u sized).size (Each-get_or matrices j [] u central)
 
 -- what holds of an option's cases
 pub option_weaker : {T P P' : Type 0} {Q Q' : T → Type 0} (x : Option T) → (P → P') → ((t : T) → Q t → Q' t) → MatchOption x P Q → MatchOption x P' Q'

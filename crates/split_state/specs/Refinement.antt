@@ -1,4 +1,4 @@
--- A splitting that refines another.
+-- A splitting that refines another (Stein, Modular Forms: A Computational Approach, 7.5).
 --   LiesIn p b parts    the span of b lies in that of one of the parts
 --   Refines r s         each part of r lies in a part of s
 use Rattle.std.specs.Prelude.{ℕ, List, ◌∷◌}

@@ -1,9 +1,10 @@
--- One step of a splitting by a polynomial f in an operator A.
+-- One step of a splitting by a polynomial f in an operator A (Fitting's parts: Lang, Algebra, X.7; Stein, Modular Forms: A Computational
+-- Approach, 7.5).
 --   value_matrix f a d          the columns of f(A), the values of f(A) at the first d unit vectors
 --   IsPartOf p d P parts        the one part with the vectors of the set P, or none where P has 0 alone
 --   nonzero_of b                the part in a list, or none where it has no row
---   SplitBy p d a parts news    each part is replaced by its generalised kernel and its eventual image under the matrix a, in this order, and parts
--- with 0 alone are left out
+--   SplitBy p d a parts news    each part is replaced by its generalised kernel and its eventual image under the matrix a, in this
+--                               order, and parts with 0 alone are left out
 --   Listing names matrices op m names' matrices'   the operator is listed at the end if its name is new
 --   IsWhole p d s               s has the whole space as its one part, or no part where d is 0, and no operator
 --   IsStep s op m f r           r has the parts of s split by f(A), where A has the columns m, and the operator listed

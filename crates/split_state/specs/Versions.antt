@@ -1,5 +1,5 @@
 -- Versions of the space of modular symbols, made from the whole space by a list of entries: each entry names an operator and a polynomial
--- in it (Stein, Modular Forms: A Computational Approach, 3.7 and chapter 8; Cremona, Algorithms for Modular Elliptic Curves, chapter 2).
+-- in it (Stein, Modular Forms: A Computational Approach, 3.7, 7.5 and chapter 8; Cremona, Algorithms for Modular Elliptic Curves, chapter 2).
 -- A ground g is a level N and a characteristic p; d is the dimension of its space.
 --   IsOperatorMatrix g op columns   the matrix of the operator: for T_n column j is the coordinates of Merel's sum of determinant n at
 --                                   free symbol j, for star those of (-u:v), where free symbol j is (u:v)

@@ -1,11 +1,13 @@
 ghost use Rattle.std.specs.Prelude.{◌≡◌, ◌<◌, ℕ, List, [], IfOk, IsErrOf, MatchOption, length, slice_index, slice_index_or};
 ghost use Rattle.op_polynomials.specs.declared.name.OpName.{OpName};
 ghost use Rattle.dense_mat.specs.Matrix.{IsMatrix};
+ghost use Rattle.linear_algebra.specs.Dense.{dense_rows};
 ghost use Rattle.linear_algebra.specs.Span.{Each};
-ghost use Rattle.split_state.specs.Decomposition.{IsSized};
+ghost use Rattle.split_state.specs.Decomposition.{Centralises, IsSized};
 ghost use Rattle.split_state.specs.Difference.{Agree, AgreeAll, IsColumnDifference, IsDifference, IsDifferenceAmong, IsFirstUnequal};
 
 use crate::fault::RefineFault;
+use crate::refining::is_listed;
 use dense_mat::Mat;
 use field_table::{Field, OutOfMemory};
 use op_polynomials::OpName;
@@ -99,10 +101,9 @@ fn matrix_difference(
     Ok(None)
 }
 
-/// Tests whether the matrix commutes with each listed one, in their order and column by column,
-/// and refuses the first difference. Costs two products of a matrix and a vector for each column
-/// of each listed matrix up to it.
-pub fn commuting(
+// Tests whether the matrix commutes with each of these, in their order and column by column, and
+// refuses the first difference.
+fn commuting_with_each(
     alloc: Global,
     field: Field,
     names: &[OpName],
@@ -133,4 +134,34 @@ pub fn commuting(
         }
     }
     Ok(())
+}
+
+/// Tests whether the matrix of an operator commutes with each listed one, in their order and column by
+/// column, and refuses the first difference. Costs two products of a matrix and a vector for each
+/// column of each listed matrix up to it; and nothing where the operator is listed, since listed
+/// matrices commute.
+pub fn commuting(
+    alloc: Global,
+    field: Field,
+    names: &[OpName],
+    matrices: &[Mat],
+    op: OpName,
+    mat: &Mat,
+) -> Result<(), RefineFault>
+    requires matrix { IsMatrix field mat.now }
+    requires listed { Each (IsSized field (length mat.now)) matrices.now }
+    requires many { length matrices.now ≡ length names.now }
+    requires matches { (k : ℕ) → k < length names.now → slice_index_or names.now k op ≡ op →
+        slice_index_or matrices.now k [] ≡ mat.now }
+    requires commute { Each (λ m. Centralises field matrices.now (dense_rows field m)) matrices.now }
+    ensures agree { IfOk result (λ _. (k : ℕ) → k < length matrices.now →
+        AgreeAll field mat.now (slice_index_or matrices.now k [])) }
+    ensures commutator { (other : OpName) (row column left right : ℕ) →
+        IsErrOf result (RefineFault.Commutator other row column left right) →
+        IsDifferenceAmong field mat.now names.now matrices.now other row column left right }
+{
+    if is_listed(names, op) {
+        return Ok(());
+    }
+    commuting_with_each(alloc, field, names, matrices, mat)
 }

@@ -107,7 +107,7 @@ fn refined(
         (decomposition field dim parts.now names.now matrices.now) mat.now
         other row column left right }
 {
-    commuting(alloc, field, names, matrices, mat)?;
+    commuting(alloc, field, names, matrices, op, mat)?;
     let value = poly.at_matrix(alloc, field, mat)?;
     let news = split_parts(alloc, field, &value, parts)?;
     let mut listed = Vec::from_slice(alloc, names)?;
@@ -169,9 +169,10 @@ impl Splitting {
     /// products of A with a listed matrix in both orders differ, with both entries. The splitting
     /// itself stays as it is.
     ///
-    /// Costs 2 d products of a matrix and a vector for each listed operator, as many products of
-    /// matrices as f has coefficients, less one, the elimination of each part under f(A), and a copy
-    /// of the listed matrices.
+    /// Costs 2 d products of a matrix and a vector for each listed operator, and none where the
+    /// operator is listed itself; as many products of matrices as f has coefficients, less one; the
+    /// elimination of each part under f(A); and a copy of the listed matrices, which is small beside
+    /// one product.
     pub fn refine(
         &self,
         alloc: Global,

@@ -1,8 +1,6 @@
-use Rattle.std.proofs.Common.{sym, subst, length}
-use Rattle.split_state.specs.Decomposition.{IsSized}
-use Rattle.split_state.proofs.Keeping.{Each-get_or}
+use Rattle.split_state.proofs.Differences.{listed_agrees}
 use Rattle.split_state.proofs.difference.commuting.Goals as goal
 
-pub matrix_difference-requires-clause-other : goal.matrix_difference-requires-clause-other
-matrix_difference-requires-clause-other c = subst (IsSized c.args.field (length c.args.mat.now)) (sym c.index-matrices-k.is)
-    (Each-get_or c.args.matrices.now c.loop-k.k c.index-matrices-k.result c.loop-k-test.true c.requires.listed)
+pub returns-then-is_listed-clause-agree : goal.returns-then-is_listed-clause-agree
+returns-then-is_listed-clause-agree c = listed_agrees c.args.field c.args.names.now c.args.matrices.now c.args.op c.args.mat.now
+    c.requires.many c.requires.listed c.requires.matches c.requires.commute (c.is_listed.ensures.0 c.if-is_listed.true)
