@@ -34,10 +34,12 @@ agreeing_centralises s a h sized agree = agree_centralises s.characteristic s.di
 listed_commute : (g : Ground) (ops : List OpName) (s : Decomposition) → s.characteristic ≡ g.characteristic → AreListed g ops s.names s.matrices
     → (op : OpName) (m : List (List ℕ)) → IsOperatorMatrix g op m → ((other : OpName) → Contains ops other → HaveCommutingMatrices g op other)
     → Centralises s.characteristic s.matrices (dense_rows s.characteristic m)
-listed_commute g ops s same h op m is commute = each_from_places (λ o. Commute (dense_rows s.characteristic m) (dense_rows s.characteristic o)) s.matrices [] (λ k l.
+listed_commute g ops s same h op m is commute = each_from_places (λ o. Commute (dense_rows s.characteristic m) (dense_rows s.characteristic o))
+    s.matrices [] (λ k l.
     let w : k < length s.names = omega (arith, h.many) in
     subst (λ p. Commute (dense_rows p m) (dense_rows p (get_or s.matrices k []))) (sym same)
-    (commute (get_or s.names k Star) ((h.named (get_or s.names k Star)).0 (Contains-get_or s.names k Star w)) m (get_or s.matrices k []) is (h.matrix k w)))
+    (commute (get_or s.names k Star) ((h.named (get_or s.names k Star)).0 (Contains-get_or s.names k Star w)) m (get_or s.matrices k []) is
+    (h.matrix k w)))
 
 -- the whole space is a splitting
 pub whole_splitting : (p d : ℕ) → IsListed p → (s : Decomposition) → IsWhole p d s → IsSplitting s
@@ -50,7 +52,8 @@ pub first_splitting : (g : Ground) → IsListed g.characteristic → (s : Decomp
 first_splitting g listed s h = whole_splitting g.characteristic (dimension g.level g.characteristic) listed s (version_none g s h)
 
 -- the next version is one, if the matrix of its operator commutes with the listed ones
-pub next_splitting : (g : Ground) → IsListed g.characteristic → (entries : List SplitEntry) (e : SplitEntry) (s r : Decomposition) → IsVersion g entries s
+pub next_splitting : (g : Ground) → IsListed g.characteristic → (entries : List SplitEntry) (e : SplitEntry) (s r : Decomposition)
+    → IsVersion g entries s
     → IsSplitting s → (k : IsEntryStep g s e r) → Centralises s.characteristic s.matrices (dense_rows s.characteristic k.matrix) → IsSplitting r
 next_splitting g listed entries e s r h splits k central =
     step_keeps s r e.op k.matrix e.poly splits (version_sized g entries s e.op k.matrix h k.operator) central
@@ -60,7 +63,8 @@ pub entry_refines : (g : Ground) (s : Decomposition) (e : SplitEntry) (r : Decom
 entry_refines g s e r k = step_refines s r e.op k.matrix e.poly k.step
 
 -- so are all versions where the operators commute
-splitting_from : {g : Ground} {s r : Decomposition} {entries : List SplitEntry} → IsListed g.characteristic → (done : List SplitEntry) → IsVersion g done s
+splitting_from : {g : Ground} {s r : Decomposition} {entries : List SplitEntry} → IsListed g.characteristic → (done : List SplitEntry)
+    → IsVersion g done s
     → IsSplitting s → OperatorsCommute g (done ++ entries) → IsVersionFrom g s entries r → IsSplitting r
 splitting_from listed done h splits commute unchanged = splits
 splitting_from {g = g} {s = s} listed done h splits commute (stepped {t = t} {e = e} {entries = entries} k a) =

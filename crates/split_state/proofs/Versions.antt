@@ -19,12 +19,14 @@ use Rattle.split_state.specs.Versions.{IsOperatorMatrix, IsEntryStep, IsVersionF
 use Rattle.split_state.proofs.Unique.{part_once, step_once}
 
 -- an operator has one matrix
-pub operator_matrix_once : (g : Ground) → IsPrime g.characteristic → (op : OpName) (m o : List (List ℕ)) → IsOperatorMatrix g op m → IsOperatorMatrix g op o → m ≡ o
+pub operator_matrix_once : (g : Ground) → IsPrime g.characteristic → (op : OpName) (m o : List (List ℕ)) → IsOperatorMatrix g op m
+    → IsOperatorMatrix g op o → m ≡ o
 operator_matrix_once g prime (T n) m o = matrix_once prime g.level _ m o
 operator_matrix_once g prime Star m o = matrix_once prime g.level _ m o
 
 -- of the size of the space
-pub operator_matrix_sized : (g : Ground) (op : OpName) (m : List (List ℕ)) → IsOperatorMatrix g op m → IsSized g.characteristic (dimension g.level g.characteristic) m
+pub operator_matrix_sized : (g : Ground) (op : OpName) (m : List (List ℕ)) → IsOperatorMatrix g op m
+    → IsSized g.characteristic (dimension g.level g.characteristic) m
 operator_matrix_sized g (T n) m h = record {
   matrix = record {
     sized = matrix_heights g.level _ m h;
@@ -53,14 +55,16 @@ whole_once p d prime s t h g =
     }
 
 -- a step by an entry has one outcome
-entry_step_once : (g : Ground) → IsListed g.characteristic → (s : Decomposition) → s.characteristic ≡ g.characteristic → (e : SplitEntry) (r t : Decomposition)
+entry_step_once : (g : Ground) → IsListed g.characteristic → (s : Decomposition) → s.characteristic ≡ g.characteristic
+    → (e : SplitEntry) (r t : Decomposition)
     → IsEntryStep g s e r → IsEntryStep g s e t → r ≡ t
 entry_step_once g listed s same e r t h k =
     let one : k.matrix ≡ h.matrix = operator_matrix_once g (listed_prime g.characteristic listed) e.op k.matrix h.matrix k.operator h.operator in
     step_once s e.op h.matrix e.poly r t (subst IsListed (sym same) listed) h.step (subst (λ m. IsStep s e.op m e.poly t) one k.step)
 
 -- so entries have
-version_from_once : (g : Ground) → IsListed g.characteristic → {s r t : Decomposition} {entries : List SplitEntry} → s.characteristic ≡ g.characteristic
+version_from_once : (g : Ground) → IsListed g.characteristic → {s r t : Decomposition} {entries : List SplitEntry}
+    → s.characteristic ≡ g.characteristic
     → IsVersionFrom g s entries r → IsVersionFrom g s entries t → r ≡ t
 version_from_once g listed same unchanged unchanged = refl
 version_from_once g listed {s = s} {t = t} same (stepped {t = v} {e = e} {entries = entries} h a) (stepped {t = w} k b) =
@@ -68,13 +72,16 @@ version_from_once g listed {s = s} {t = t} same (stepped {t = v} {e = e} {entrie
     version_from_once g listed (h.step.characteristic ∙ same) a (subst (λ x. IsVersionFrom g x entries t) (sym one) b)
 
 -- and a list has one version
-pub version_once : (g : Ground) → IsListed g.characteristic → (entries : List SplitEntry) (s t : Decomposition) → IsVersion g entries s → IsVersion g entries t → s ≡ t
+pub version_once : (g : Ground) → IsListed g.characteristic → (entries : List SplitEntry) (s t : Decomposition) → IsVersion g entries s
+    → IsVersion g entries t → s ≡ t
 version_once g listed entries s t h k =
-    let one : k.start ≡ h.start = whole_once g.characteristic (dimension g.level g.characteristic) (listed_prime g.characteristic listed) k.start h.start k.whole h.whole in
+    let one : k.start ≡ h.start = whole_once g.characteristic (dimension g.level g.characteristic) (listed_prime g.characteristic listed) k.start
+    h.start k.whole h.whole in
     version_from_once g listed h.whole.characteristic h.steps (subst (λ x. IsVersionFrom g x entries t) one k.steps)
 
 -- one entry more is one step more
-step_after : {g : Ground} {s t : Decomposition} {entries : List SplitEntry} (e : SplitEntry) (r : Decomposition) → IsVersionFrom g s entries t → IsEntryStep g t e r
+step_after : {g : Ground} {s t : Decomposition} {entries : List SplitEntry} (e : SplitEntry) (r : Decomposition) → IsVersionFrom g s entries t
+    → IsEntryStep g t e r
     → IsVersionFrom g s (entries ++ e ∷ []) r
 step_after e r unchanged h = stepped h unchanged
 step_after e r (stepped k a) h = stepped k (step_after e r a h)
@@ -105,7 +112,8 @@ pub version_whole : (g : Ground) (s : Decomposition) → IsWhole g.characteristi
 version_whole g s w = record { start = s; whole = w; steps = unchanged }
 
 -- steps keep the setting
-pub from_characteristic : {g : Ground} {s r : Decomposition} {entries : List SplitEntry} → IsVersionFrom g s entries r → r.characteristic ≡ s.characteristic
+pub from_characteristic : {g : Ground} {s r : Decomposition} {entries : List SplitEntry} → IsVersionFrom g s entries r
+    → r.characteristic ≡ s.characteristic
 from_characteristic unchanged = refl
 from_characteristic (stepped h a) = from_characteristic a ∙ h.step.characteristic
 
@@ -113,7 +121,8 @@ pub from_dim : {g : Ground} {s r : Decomposition} {entries : List SplitEntry} �
 from_dim unchanged = refl
 from_dim (stepped h a) = from_dim a ∙ h.step.dim
 
-pub version_characteristic : (g : Ground) (entries : List SplitEntry) (s : Decomposition) → IsVersion g entries s → s.characteristic ≡ g.characteristic
+pub version_characteristic : (g : Ground) (entries : List SplitEntry) (s : Decomposition) → IsVersion g entries s
+    → s.characteristic ≡ g.characteristic
 version_characteristic g entries s h = from_characteristic h.steps ∙ h.whole.characteristic
 
 pub version_dim : (g : Ground) (entries : List SplitEntry) (s : Decomposition) → IsVersion g entries s → s.dim ≡ dimension g.level g.characteristic
@@ -121,7 +130,8 @@ version_dim g entries s h = from_dim h.steps ∙ h.whole.dim
 
 -- one operator more
 list_more : (g : Ground) (ops : List OpName) (op : OpName) (m : List (List ℕ)) {names others : List OpName} {matrices columns : List (List (List ℕ))}
-    → IsOperatorMatrix g op m → AreListed g ops names matrices → Listing names matrices op m others columns → AreListed g (ops ++ op ∷ []) others columns
+    → IsOperatorMatrix g op m → AreListed g ops names matrices → Listing names matrices op m others columns
+    → AreListed g (ops ++ op ∷ []) others columns
 list_more g ops op m {names = names} {matrices = matrices} is h (known there) = record {
   many = h.many;
   named = λ o. (λ c. Contains-append_left ops (op ∷ []) o ((h.named o).0 c), λ c. back o (Contains-push_cases ops op o c));

@@ -136,10 +136,10 @@ fn commuting_with_each(
     Ok(())
 }
 
-/// Tests whether the matrix of an operator commutes with each listed one, in their order and column by
-/// column, and refuses the first difference. Costs two products of a matrix and a vector for each
-/// column of each listed matrix up to it; and nothing where the operator is listed, since listed
-/// matrices commute.
+/// Tests whether the matrix of an operator commutes with each listed one, in their order and column
+/// by column, and refuses the first difference. Costs two products of a matrix and a vector for
+/// each column of each listed matrix up to it; and nothing where the operator is listed, since
+/// listed matrices commute.
 pub fn commuting(
     alloc: Global,
     field: Field,
@@ -153,7 +153,8 @@ pub fn commuting(
     requires many { length matrices.now ≡ length names.now }
     requires matches { (k : ℕ) → k < length names.now → slice_index_or names.now k op ≡ op →
         slice_index_or matrices.now k [] ≡ mat.now }
-    requires commute { Each (λ m. Centralises field matrices.now (dense_rows field m)) matrices.now }
+    requires commute { Each (λ m. Centralises field matrices.now (dense_rows field m))
+        matrices.now }
     ensures agree { IfOk result (λ _. (k : ℕ) → k < length matrices.now →
         AgreeAll field mat.now (slice_index_or matrices.now k [])) }
     ensures commutator { (other : OpName) (row column left right : ℕ) →

@@ -11,7 +11,7 @@ pub enum RefineFault {
     /// The products of the matrix and that of the listed operator `other` differ first in this
     /// column and row, both numbered from 0: `left` is the entry of matrix times listed, `right`
     /// that of listed times matrix.
-    #[error("products with a listed matrix differ in row {row} of column {column}: {left}, {right}")]
+    #[error("products with a listed one differ in row {row} of column {column}: {left}, {right}")]
     Commutator {
         other: OpName,
         row: u32,

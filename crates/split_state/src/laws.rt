@@ -11,7 +11,8 @@ ghost use Rattle.split_state.specs.Step.{IsStep, IsWhole};
 ghost use Rattle.split_state.specs.Versions.{IsEntryStep, IsOperatorMatrix, IsVersion, ListsOperators, OperatorsCommute};
 
 /// A step by an operator that commutes with every listed one, and is the listed one where its name
-/// is listed, makes a splitting of a splitting, in which it is the listed one; and every step refines.
+/// is listed, makes a splitting of a splitting, in which it is the listed one; and every step
+/// refines.
 pub fn steps_keep_splittings()
     ensures law { (s r : Decomposition) (op : OpName) (m : List (List ℕ)) (f : List ℕ) →
         IsSplitting s → IsSized s.characteristic s.dim m →
@@ -59,7 +60,8 @@ pub fn versions_grow_by_steps()
     ensures none { (g : Ground) (s : Decomposition) → IsVersion g [] s ↔
         IsWhole g.characteristic (dimension g.level g.characteristic) s }
     ensures more { (g : Ground) (entries : List SplitEntry) (e : SplitEntry)
-        (s r : Decomposition) → IsVersion g entries s → IsEntryStep g s e r → IsVersion g (entries ++ e ∷ []) r }
+        (s r : Decomposition) → IsVersion g entries s → IsEntryStep g s e r →
+        IsVersion g (entries ++ e ∷ []) r }
     ensures last { (g : Ground) (entries : List SplitEntry) (e : SplitEntry)
         (r : Decomposition) → IsVersion g (entries ++ e ∷ []) r →
         (s : Decomposition) × IsVersion g entries s × IsEntryStep g s e r }

@@ -117,8 +117,8 @@ fn refined(
 }
 
 impl Splitting {
-    /// The space of the vectors of length d as its one part, or no part where d is 0. No operator is
-    /// listed. Costs the d rows of the identity.
+    /// The space of the vectors of length d as its one part, or no part where d is 0. No operator
+    /// is listed. Costs the d rows of the identity.
     pub fn whole(alloc: Global, field: Field, d: u32) -> Result<Splitting, OutOfMemory>
         ensures { IfOk result (IsWhole field d) }
     {
@@ -171,8 +171,8 @@ impl Splitting {
     ///
     /// Costs 2 d products of a matrix and a vector for each listed operator, and none where the
     /// operator is listed itself; as many products of matrices as f has coefficients, less one; the
-    /// elimination of each part under f(A); and a copy of the listed matrices, which is small beside
-    /// one product.
+    /// elimination of each part under f(A); and a copy of the listed matrices, which is small
+    /// beside one product.
     pub fn refine(
         &self,
         alloc: Global,

@@ -90,7 +90,8 @@ fn step(
 ) -> Result<Option<Splitting>, RefineFault>
     requires matrix { IsMatrix splitting.now.characteristic mat.now }
     requires coefficients { AreResidues splitting.now.characteristic poly.now }
-    ensures { IfOk result (λ some. IfSome some (λ r. r.characteristic ≡ splitting.now.characteristic)) }
+    ensures { IfOk result (λ some.
+        IfSome some (λ r. r.characteristic ≡ splitting.now.characteristic)) }
 {
     if splitting.dim() != mat.size() || is_listed(splitting.ops(), op) {
         return Ok(None);
