@@ -6,7 +6,6 @@ use Rattle.std.proofs.lemmas.List.{append-nil}
 use Rattle.std.proofs.lemmas.Grind.{flat_map-append}
 use Rattle.linear_algebra.specs.Vector.{◌⊞◌, zeros}
 use Rattle.linear_algebra.specs.Dense.{dense}
-use Rattle.linear_algebra.specs.Sparse.{sparse}
 use Rattle.linear_algebra.proofs.Vectors.{plus-zeros, plus_assoc}
 use Rattle.linear_algebra.proofs.SparseLaws.{sparse_nil}
 use Rattle.p1_normal.specs.declared.matrix.Matrix.{Matrix}
@@ -18,12 +17,12 @@ use Rattle.heilbronn_sets.proofs.Faults.{zero_matrix}
 use Rattle.heilbronn_chains.specs.Chains.{Follows, degree}
 use Rattle.heilbronn_chains.proofs.Walks.{IsBeginning, degree_is, IsPart, Walked, walk_begins, walk_goes_on, walk_ends, part_none, part_more, part_all}
 use Rattle.heilbronn_chains.proofs.ChainLists.{chains_permutation}
-use Rattle.quotient_coords.specs.Quotient.{Ground, HasCoordinates}
+use Rattle.quotient_coords.specs.Quotient.{AreCoordinates, Ground}
 use Rattle.hecke_columns.specs.Hecke.{IsColumn, symbol_sum}
 use Rattle.hecke_columns.specs.Chains.{AddsChainSum, AddsChainSums}
 use Rattle.hecke_columns.proofs.Hits.{sparse-hits}
 use Rattle.hecke_columns.proofs.Permuted.{IsColumn-permutation, sum_more, symbol_sum-append}
-use Rattle.hecke_columns.proofs.Columns.{IsColumn-from_counts}
+use Rattle.hecke_columns.proofs.Columns.{IsColumn-from_dense}
 
 -- the sum over no matrix is 0
 symbol_sum-none : (p N k : ℕ) → symbol_sum {p = p} N [] k ≡ zeros
@@ -99,9 +98,9 @@ pub start_coprime : (N n i : ℕ) (items : List Matrix) → (b : IsBeginning n (
 start_coprime N n i items b coprime = ap (λ d. gcd d N) b.degree_is ∙ coprime
 
 -- the counts of the images of symbol k along all chains, made from zeros, give the column over Merel's set
-pub IsColumn-from_chains : (g : Ground) (n k m : ℕ) (counts : List ℕ) (terms : List (ℕ × ℕ)) (values : List ℕ) → k < length (symbols g.level)
-    → 0 < n → AddsChainSums g.level g.characteristic n k (replicate m 0) counts → sparse g.characteristic terms ≡ dense g.characteristic counts
-    → HasCoordinates g terms values → IsColumn g (merel_matrices n) k values
-IsColumn-from_chains g n k m counts terms values within some h vector coordinates =
+pub IsColumn-from_chains : (g : Ground) (n k m : ℕ) (counts : List ℕ) (values : List ℕ) → k < length (symbols g.level) → 0 < n
+    → AddsChainSums g.level g.characteristic n k (replicate m 0) counts → AreCoordinates g.level (dense g.characteristic counts) values
+    → IsColumn g (merel_matrices n) k values
+IsColumn-from_chains g n k m counts values within some h coordinates =
     IsColumn-permutation g (flat_map (λ ms. ms) h.chains) (merel_matrices n) k values within (chains_permutation n h.chains some h.are)
-    (IsColumn-from_counts g (flat_map (λ ms. ms) h.chains) k m counts terms values within h.sum vector coordinates)
+    (IsColumn-from_dense g (flat_map (λ ms. ms) h.chains) k m counts values within h.sum coordinates)

@@ -20,7 +20,7 @@ use Rattle.hecke_columns.proofs.Hits.{hits, sparse-hits}
 use Rattle.hecke_columns.proofs.Sums.{hecke_sum-unit}
 
 -- the hits of two lists, one behind the other
-hits-append : (N : ℕ) (L K : List Matrix) (k : ℕ) → hits N (L ++ K) k ≡ hits N L k ++ hits N K k
+pub hits-append : (N : ℕ) (L K : List Matrix) (k : ℕ) → hits N (L ++ K) k ≡ hits N L k ++ hits N K k
 hits-append N L K k = ap (map (λ j. (j, 1))) (map-append (image_number N k) L K) ∙ map-append (λ j. (j, 1)) (images N L k) (images N K k)
 
 -- the sum over two lists, one behind the other, is the sum of both sums

@@ -8,7 +8,7 @@ ghost use Rattle.p1_normal.specs.Units.{gcd};
 ghost use Rattle.hecke_columns.specs.Chains.{AddsChainSum, AddsChainSums};
 ghost use Rattle.hecke_columns.specs.Hecke.{IsColumn};
 
-use field_table::{Combo, Field, OutOfMemory, Residues};
+use field_table::{Field, OutOfMemory, Residues};
 use heilbronn_chains::{next, starts};
 use heilbronn_sets::SetFault;
 use p1_normal::{Level, Matrix};
@@ -93,6 +93,5 @@ pub(crate) fn column_by_chains(
     let level = space.level();
     let mut counts = vec![in alloc; 0; level.count() as usize]?;
     add_chains(alloc, level, space.field(), n, k, &mut counts)?;
-    let combo = Combo::from_dense(alloc, &counts)?;
-    space.coords(alloc, &combo)
+    space.coords_of_counts(alloc, &counts)
 }
