@@ -67,8 +67,8 @@ impl Column {
     }
 
     /// Computes the column of symbol k over Merel's set of determinant n, and walks the set's chains in place of
-    /// storing it. Takes the starts of the chains, as many matrices as the divisors of n add up to. Costs two
-    /// divisions and an image of the symbol for each matrix, and then what `column_of` costs after its count.
+    /// storing it. Takes the starts of the chains, as many matrices as the divisors of n add up to, and m numbers.
+    /// Costs a division and an image of the symbol for each matrix, and then what `coords_of_counts` costs.
     pub fn by_chains(alloc: Global, space: &Space, n: u32, k: u32) -> Result<Column, OutOfMemory>
         requires place { k < length (symbols space.now.level) }
         requires some { 0 < n }
@@ -90,9 +90,10 @@ impl Column {
     }
 
     /// Computes the column of symbol k over Merel's set whose chains the steps walk, with a table of turns of
-    /// the level: an image of the symbol for each chain, and a look-up for each other matrix, or an image where
-    /// its step is past the limit of the table. Then it costs what `column_of` costs after its count. All
-    /// columns of one n share the steps, and all columns of a level the table.
+    /// the level. Costs an image of the symbol for each chain and a look-up for each other matrix, or an image
+    /// where its step is past the limit of the table. Then it costs what `coords_of_terms` costs for the images
+    /// where there are less than m / 2, else what `coords_of_counts` costs, and takes a number for each image or
+    /// for each symbol. All columns of one n share the steps, and all columns of a level the table.
     pub fn by_turns(
         alloc: Global,
         space: &Space,
