@@ -2,6 +2,7 @@
 //! by its one reduced echelon basis. It knows nothing of where the matrices come from.
 #![tactic(auto)]
 
+mod accumulation;
 mod addition;
 mod basis;
 mod constants;

@@ -1,4 +1,5 @@
 ghost use Rattle.std.specs.Prelude.{◌≡◌, ◌<◌, ◌++◌, ◌∷◌, [], IfOk, length, map, take, slice_index_or};
+ghost use Rattle.dense_mat.specs.Accumulation.{HasRoom};
 ghost use Rattle.dense_mat.specs.Echelon.{AreRows};
 ghost use Rattle.dense_mat.specs.Matrix.{IsMatrix};
 ghost use Rattle.field_table.specs.Residues.{AreResidues};
@@ -6,24 +7,24 @@ ghost use Rattle.linear_algebra.specs.Dense.{dense, dense_rows};
 ghost use Rattle.linear_algebra.specs.Vector.{◌⊞◌};
 ghost use Rattle.stable_subspaces.specs.Operator.{apply, power};
 
+use crate::accumulation::{add, residues_of};
 use crate::copies::copies_of;
 use crate::mat::Mat;
-use field_table::{Field, OutOfMemory, Residues, axpy};
+use field_table::{Field, OutOfMemory, Residues};
 use std::alloc::Global;
 
-// Adds the image of v to the list.
-fn add_image(field: Field, mat: &Mat, v: &[u32], acc: &mut [u32])
+// Adds the image of v to sums of residues.
+fn add_image(field: Field, mat: &Mat, v: &[u32], sums: &mut [u64])
     requires matrix { IsMatrix field mat.now }
-    requires lengths { length acc.old ≡ length mat.now }
+    requires lengths { length sums.old ≡ length mat.now }
     requires vector { length v.now ≡ length mat.now }
     requires vector_residues { AreResidues field v.now }
-    requires residues { AreResidues field acc.old }
-    ensures sum { dense field acc.new
-        ≡ dense field acc.old ⊞ apply (dense_rows field mat.now) (dense field v.now) }
-    ensures residues { AreResidues field acc.new }
+    requires room { HasRoom 0 sums.old }
+    ensures sum { dense field sums.new
+        ≡ dense field sums.old ⊞ apply (dense_rows field mat.now) (dense field v.now) }
 {
     for j in 0..mat.size() {
-        axpy(field, acc, v[j as usize], mat.column(j));
+        add(field, sums, j as usize, v[j as usize], mat.column(j));
     }
 }
 
@@ -38,9 +39,9 @@ impl Mat {
         ensures residues { IfOk result (λ r. AreResidues field r) }
         ensures length { IfOk result (λ r. length r ≡ length self.now) }
     {
-        let mut image = vec![in alloc; 0; v.len()]?;
-        add_image(field, self, v, &mut image);
-        Ok(Residues::of(image))
+        let mut sums = vec![in alloc; 0; v.len()]?;
+        add_image(field, self, v, &mut sums);
+        residues_of(alloc, field, &sums)
     }
 
     /// The images of rows. Costs as many passes for each.
