@@ -59,7 +59,6 @@ word_of-text words.NoPart = refl
 word_of-text words.VersionsFull = refl
 word_of-text words.Relation = refl
 word_of-text words.Commutator = refl
-word_of-text words.Unbuilt = refl
 word_of-text words.Star = refl
 
 first_word-is : (ws : List Word) (t : List ℕ) (w : Word) → first_word ws t ≡ Some w → word_text w ≡ t

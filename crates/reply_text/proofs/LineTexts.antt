@@ -70,7 +70,6 @@ word_lacks words.NoPart = refl
 word_lacks words.VersionsFull = refl
 word_lacks words.Relation = refl
 word_lacks words.Commutator = refl
-word_lacks words.Unbuilt = refl
 word_lacks words.Star = refl
 
 word_lacks_feed : (w : Word) → lacks 10 (word_text w) ≡ true
@@ -114,7 +113,6 @@ word_lacks_feed words.NoPart = refl
 word_lacks_feed words.VersionsFull = refl
 word_lacks_feed words.Relation = refl
 word_lacks_feed words.Commutator = refl
-word_lacks_feed words.Unbuilt = refl
 word_lacks_feed words.Star = refl
 
 -- a byte that parts lines or lexemes stands in no lexeme
@@ -286,7 +284,6 @@ known-refusal (refusals.NoPart count) = refl
 known-refusal refusals.VersionsFull = refl
 known-refusal (refusals.Relation number coords) = known-numbers coords
 known-refusal (refusals.Commutator other row column left right) = rw (known-operator other) refl
-known-refusal refusals.Unbuilt = refl
 
 pub known-reply : (r : Reply) → list_all is_known (reply_lexemes r) ≡ true
 known-reply (replies.Point p) = refl

@@ -385,8 +385,6 @@ refusal_of-is words.Relation ls r e =
     (ap (λ more. lexs.Number a.0.0 ∷ more) (all_of-is number_item (λ n. lexs.Number n) number-item a.0.1 xs h)
     ∙ first-is number_item (λ n. lexs.Number n) number-item ls a.0 a.1))
 refusal_of-is words.Commutator ls r e = commutator-is ls r e
-refusal_of-is words.Unbuilt ls r e =
-    let none = no_more ls refusals.Unbuilt r e in ap refusal_lexemes (sym none.1) ∙ ap (λ more. lexs.Word words.Unbuilt ∷ more) (sym none.0)
 refusal_of-is w ls r e = absurd cc
 
 refusal-said : (w : Word) (ls : List Lexeme) (r : Reply) → then_option (refusal_of w ls) (λ x. Some (replies.Refused x)) ≡ Some r

@@ -74,7 +74,6 @@ refusal-spaced_text (refusals.NoPart count) = simp (append_assoc, append-nil)
 refusal-spaced_text refusals.VersionsFull = refl
 refusal-spaced_text (refusals.Relation number coords) = simp (append_assoc, append-nil, spaced_text-numbers)
 refusal-spaced_text (refusals.Commutator other row column left right) = simp (append_assoc, append-nil, operator-spelled)
-refusal-spaced_text refusals.Unbuilt = refl
 
 -- two lists with a word between them
 two-lists : (w : Word) (a b : List ℕ) (xs ys : List Lexeme) → a ≡ spaced_text xs → b ≡ spaced_text ys

@@ -88,7 +88,6 @@ refusal-read (refusals.Commutator other row column left right) = at other
         ≡ Some (replies.Refused (refusals.Commutator o row column left right))
     at (ops.T n) = refl
     at ops.Star = refl
-refusal-read refusals.Unbuilt = refl
 
 -- the lexemes of a reply are read as that reply
 pub reply_of-lexemes : (r : Reply) → has_rows r ≡ true → reply_of (reply_lexemes r) ≡ Some r

@@ -79,7 +79,6 @@ word_text words.NoPart = codes "no_part"
 word_text words.VersionsFull = codes "versions_full"
 word_text words.Relation = codes "relation"
 word_text words.Commutator = codes "commutator"
-word_text words.Unbuilt = codes "unbuilt"
 word_text words.Star = codes "star"
 
 abbrev pub all_words : List Word
@@ -87,7 +86,7 @@ all_words = words.Transcript ∷ words.Space ∷ words.Symbols ∷ words.Session
     ∷ words.Point ∷ words.Basis ∷ words.Coords ∷ words.Certified ∷ words.By ∷ words.Boundary ∷ words.Cusps ∷ words.Operator ∷ words.Trace
     ∷ words.Version ∷ words.Dims ∷ words.Splitting ∷ words.Ops ∷ words.Rows ∷ words.Break ∷ words.Chains ∷ words.Matrices ∷ words.Memory
     ∷ words.Grammar ∷ words.Limit ∷ words.N ∷ words.Degree ∷ words.Terms ∷ words.Number ∷ words.NotSymbol ∷ words.NotCoprime ∷ words.Length
-    ∷ words.NoPart ∷ words.VersionsFull ∷ words.Relation ∷ words.Commutator ∷ words.Unbuilt ∷ words.Star ∷ []
+    ∷ words.NoPart ∷ words.VersionsFull ∷ words.Relation ∷ words.Commutator ∷ words.Star ∷ []
 
 abbrev pub spell : Lexeme → List ℕ
 spell (lexs.Word w) = word_text w

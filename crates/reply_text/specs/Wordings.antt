@@ -91,7 +91,6 @@ refusal_lexemes refusals.VersionsFull = lexs.Word words.VersionsFull ∷ []
 refusal_lexemes (refusals.Relation number coords) = lexs.Word words.Relation ∷ lexs.Number number ∷ number_lexemes coords
 refusal_lexemes (refusals.Commutator other row column left right) =
     lexs.Word words.Commutator ∷ operator_lexeme other ∷ lexs.Number row ∷ lexs.Number column ∷ lexs.Number left ∷ lexs.Number right ∷ []
-refusal_lexemes refusals.Unbuilt = lexs.Word words.Unbuilt ∷ []
 
 abbrev pub reply_lexemes : Reply → List Lexeme
 reply_lexemes (replies.Point p) = lexs.Word words.Ok ∷ lexs.Word words.Point ∷ lexs.Symbol p ∷ []
@@ -258,7 +257,6 @@ refusal_of words.NoPart ls = then_option (only number_item ls) (λ n. Some (refu
 refusal_of words.VersionsFull ls = where_none ls refusals.VersionsFull
 refusal_of words.Relation ls = then_option (first number_item ls) (λ t. then_option (all_of number_item t.1) (λ xs. Some (refusals.Relation t.0 xs)))
 refusal_of words.Commutator ls = commutator_of ls
-refusal_of words.Unbuilt ls = where_none ls refusals.Unbuilt
 refusal_of w ls = None
 
 abbrev pub err_of : Word → List Lexeme → Option Reply

@@ -85,7 +85,6 @@ impl Put for Refusal {
                     Part::Numbers(&[*row, *column, *left, *right]),
                 ],
             ),
-            Refusal::Unbuilt => buffer.put(output, b"err unbuilt"),
         }
     }
 }

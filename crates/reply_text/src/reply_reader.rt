@@ -294,11 +294,6 @@ fn refusal_of(alloc: Global, word: Word, rest: Rest<'_>) -> Result<Option<Refusa
         }),
         Word::Relation => relation(alloc, rest),
         Word::Commutator => Ok(commutator(rest)),
-        Word::Unbuilt => Ok(if is_nothing(rest) {
-            Some(Refusal::Unbuilt)
-        } else {
-            None
-        }),
         _ => Ok(None),
     }
 }

@@ -14,6 +14,3 @@ returns-in-VersionsFull-clause-puts g c = rw c.in-VersionsFull.is c.put.ensures.
 pub returns-in-Relation-clause-puts : goal.returns-in-Relation-clause-puts
 returns-in-Relation-clause-puts g c =
     rw c.in-Relation.is (simp (append-nil, c.from-in-Relation.ensures, c.as_slice.ensures) at c.put_all-in-Relation.ensures.puts)
-
-pub returns-in-Unbuilt-clause-puts : goal.returns-in-Unbuilt-clause-puts
-returns-in-Unbuilt-clause-puts g c = rw c.in-Unbuilt.is c.put-in-Unbuilt.ensures.text
