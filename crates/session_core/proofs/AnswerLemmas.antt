@@ -1,6 +1,6 @@
 -- Answers about numbered terms, and the replies that they make.
-use Rattle.std.proofs.Common.{◌≡◌, ◌<◌, ◌⊎◌, inl, inr, ℕ, ℤ, pos, Bool, true, false, List, [], ◌∷◌, length, get_or, Option, None, Some, Ok, refl, sym, ◌∙◌, ap, subst}
-use Rattle.std.proofs.lemmas.Bool.{eqb-true}
+use Rattle.std.proofs.Common.{◌≡◌, ◌<◌, ◌≤◌, ◌⊎◌, ◌&&◌, inl, inr, ℕ, ℤ, pos, Bool, true, false, nat_eq, nat_le, if◌then◌else◌, List, [], ◌∷◌, length, get_or, Option, None, Some, Result, Ok, Err, refl, sym, ◌∙◌, ap, subst}
+use Rattle.std.proofs.lemmas.Bool.{eqb-true, and_parts, leb-true}
 use Rattle.linear_algebra.specs.Vector.{Vector}
 use Rattle.linear_algebra.specs.Sparse.{sparse}
 use Rattle.linear_algebra.specs.Coordinates.{AreKeptCoefficients}
@@ -9,19 +9,22 @@ use Rattle.p1_normal.specs.declared.matrix.Matrix.{Matrix}
 use Rattle.p1_normal.specs.declared.point.Point.{Point}
 use Rattle.p1_normal.specs.Points.{common_divisor, reduced, symbol_at}
 use Rattle.p1_normal.proofs.Numbers.{symbol_at-number}
-use Rattle.quotient_coords.specs.Quotient.{Ground, AreCoordinates, HasCoordinates, HasKeptCoefficients}
+use Rattle.quotient_coords.specs.Quotient.{Ground, dimension, AreCoordinates, HasCoordinates, HasKeptCoefficients}
 use Rattle.heilbronn_sets.specs.Merel.{merel_matrices}
 use Rattle.hecke_columns.specs.Hecke.{hecke_sum}
-use Rattle.op_polynomials.specs.declared.entry.SplitEntry.{SplitEntry}
+use Rattle.split_state.specs.Decomposition.{Decomposition}
 use Rattle.script_text.specs.declared.command.Command.{Command}
 use Rattle.script_text.specs.declared.command.Command.TheVariants as commands
+use Rattle.script_text.specs.declared.command_fault.CommandFault.{CommandFault}
+use Rattle.script_text.specs.declared.command_fault.CommandFault.TheVariants as faults
 use Rattle.script_text.specs.declared.term.Term.{Term}
 use Rattle.script_text.specs.Commands.{command_of}
 use Rattle.reply_text.specs.declared.refusal.Refusal.{Refusal}
+use Rattle.reply_text.specs.declared.refusal.Refusal.TheVariants.{Length, NoPart}
 use Rattle.reply_text.specs.declared.reply.Reply.{Reply}
 use Rattle.reply_text.specs.declared.reply.Reply.TheVariants as replies
 use Rattle.session_core.specs.Terms.{names_point, first_unnamed, symbol_of, symbol_terms, terms_of}
-use Rattle.session_core.specs.Refusals.{first_of, unnamed, unbuilt, uncoprime, determinant_of, refusal_of, reading_refusal, line_refusal}
+use Rattle.session_core.specs.Refusals.{first_of, unnamed, uncoprime, determinant_of, mislength, coordinate_count, no_part, part_number, full, refusal_of, reading_refusal, line_refusal}
 use Rattle.session_core.specs.Answers.{TellsCoordinates, TellsCertificate, TellsBoundary, IsAnswer}
 use Rattle.cusps_boundary.specs.Boundary.{boundary}
 use Rattle.cusps_boundary.specs.Cusps.{cusps}
@@ -29,7 +32,9 @@ use Rattle.star_map.specs.Star.{star}
 use Rattle.linear_algebra.specs.Dense.{dense}
 use Rattle.field_table.specs.Residues.{AreResidues}
 use Rattle.session_core.specs.Demands.{Gathers, Preparation, demand, reading_demand, line_demand}
-use Rattle.session_core.specs.Replies.{UnlessRefused, Refuses, IsAnswerTo, IsReply, Prepares}
+use Rattle.session_core.specs.Replies.{UnlessRefused, Refuses, IsAccepted, IsAnswerTo, Prepares, Finishes, FinishesReading, FinishesLine}
+use Rattle.session_core.specs.declared.outcome.Finish.{Finish}
+use Rattle.session_core.specs.declared.outcome.Finish.TheVariants as outcomes
 use Rattle.session_core.proofs.PairLemmas.{Adds_refl, Has-nil}
 
 -- the vector of a combination over an equal field
@@ -94,70 +99,136 @@ normal_told N t numbers symbol positive named terms is =
     ap replies.Point (is ∙ ap (λ (ts : List (ℕ × ℤ)). symbol_at N (get_or ts 0 (0, pos 0)).0) terms ∙ symbol_at-number N (reduced N t.u t.v)
     positive (names_one N t named))
 
--- only these commands are answered
-pub unbuilt_only : (g : Ground) (history : List SplitEntry) (command : Command) → refusal_of g history command ≡ None
-    → ((u v : ℤ) → command ≡ commands.Normal u v → ⊥) → (command ≡ commands.Basis → ⊥) → ((terms : List Term) → command ≡ commands.Reduce terms → ⊥)
-    → ((terms : List Term) → command ≡ commands.Certify terms → ⊥) → ((n : ℕ) (terms : List Term) → command ≡ commands.Image n terms → ⊥)
-    → ((terms : List Term) → command ≡ commands.Star terms → ⊥) → ((terms : List Term) → command ≡ commands.Boundary terms → ⊥)
-    → (command ≡ commands.Cusps → ⊥)
-    → ((n : ℕ) → command ≡ commands.Chains n → ⊥) → ⊥
-unbuilt_only g history (commands.Normal u v) none normal basis reduce certify image star boundary cusps chains = normal u v refl
-unbuilt_only g history commands.Basis none normal basis reduce certify image star boundary cusps chains = basis refl
-unbuilt_only g history (commands.Reduce terms) none normal basis reduce certify image star boundary cusps chains = reduce terms refl
-unbuilt_only g history (commands.Certify terms) none normal basis reduce certify image star boundary cusps chains = certify terms refl
-unbuilt_only g history (commands.Image n terms) none normal basis reduce certify image star boundary cusps chains = image n terms refl
-unbuilt_only g history (commands.Star terms) none normal basis reduce certify image star boundary cusps chains = star terms refl
-unbuilt_only g history (commands.Boundary terms) none normal basis reduce certify image star boundary cusps chains = boundary terms refl
-unbuilt_only g history commands.Cusps none normal basis reduce certify image star boundary cusps chains = cusps refl
-unbuilt_only g history (commands.Operator op) none normal basis reduce certify image star boundary cusps chains = absurd cc
-unbuilt_only g history (commands.Apply op coords) none normal basis reduce certify image star boundary cusps chains = absurd cc
-unbuilt_only g history (commands.Poly op coefficients coords) none normal basis reduce certify image star boundary cusps chains = absurd cc
-unbuilt_only g history (commands.Split op coefficients) none normal basis reduce certify image star boundary cusps chains = absurd cc
-unbuilt_only g history commands.Show none normal basis reduce certify image star boundary cusps chains = absurd cc
-unbuilt_only g history (commands.Part number) none normal basis reduce certify image star boundary cusps chains = absurd cc
-unbuilt_only g history (commands.Chains n) none normal basis reduce certify image star boundary cusps chains = chains n refl
-
 -- a command that is not refused has terms that name points
-pub named_of : (g : Ground) (history : List SplitEntry) (command : Command) → refusal_of g history command ≡ None
+pub named_of : (g : Ground) (v count : ℕ) (command : Command) → refusal_of g v count command ≡ None
     → first_unnamed g.level (terms_of command) ≡ None
-named_of g history command none =
-    by (unbuilt command) (first_unnamed g.level (terms_of command)) (uncoprime g.level (determinant_of command)) none
+named_of g v count command none = by (first_unnamed g.level (terms_of command)) (first_of (uncoprime g.level (determinant_of command))
+    (first_of (mislength (dimension g.level g.characteristic) (coordinate_count command))
+    (first_of (no_part count (part_number command)) (full v command)))) none
   where
-    by : (a : Option Refusal) (b : Option ℕ) (c : Option Refusal) → first_of a (first_of (unnamed b) c) ≡ None → b ≡ None
-    by None None c none = refl
-    by None (Some i) c none = absurd cc
-    by (Some refusal) b c none = absurd cc
+    by : (b : Option ℕ) (c : Option Refusal) → first_of (unnamed b) c ≡ None → b ≡ None
+    by None c none = refl
+    by (Some i) c none = absurd cc
+
+-- and none of the later refusals
+later_none : (a b : Option Refusal) → first_of a b ≡ None → b ≡ None
+later_none None b none = none
+later_none (Some refusal) b none = absurd cc
+
+first_none : (a b : Option Refusal) → first_of a b ≡ None → a ≡ None
+first_none None b none = refl
+first_none (Some refusal) b none = absurd cc
+
+-- it gives as many coordinates as the dimension, if it gives any
+pub length_of : (g : Ground) (v count : ℕ) (command : Command) (k : ℕ) → refusal_of g v count command ≡ None
+    → coordinate_count command ≡ Some k → k ≡ dimension g.level g.characteristic
+length_of g v count command k none counts =
+    even (nat_eq k (dimension g.level g.characteristic)) (eqb-true k (dimension g.level g.characteristic))
+    (subst (λ o. mislength (dimension g.level g.characteristic) o ≡ None) counts
+    (first_none (mislength (dimension g.level g.characteristic) (coordinate_count command)) _
+    (later_none (uncoprime g.level (determinant_of command)) _
+    (later_none (unnamed (first_unnamed g.level (terms_of command))) _ none))))
+  where
+    even : (b : Bool) → (b ≡ true → k ≡ dimension g.level g.characteristic)
+        → (if b then None else Some (Length (dimension g.level g.characteristic) k)) ≡ None → k ≡ dimension g.level g.characteristic
+    even true f h = f refl
+    even false f h = absurd cc
+
+-- it asks for a part that is there, if it asks for one
+pub part_of : (g : Ground) (v count : ℕ) (command : Command) (number : ℕ) → refusal_of g v count command ≡ None
+    → part_number command ≡ Some number → (1 ≤ number) × (number ≤ count)
+part_of g v count command number none asks =
+    there (nat_le 1 number && nat_le number count) refl
+    (subst (λ o. no_part count o ≡ None) asks
+    (first_none (no_part count (part_number command)) _
+    (later_none (mislength (dimension g.level g.characteristic) (coordinate_count command)) _
+    (later_none (uncoprime g.level (determinant_of command)) _
+    (later_none (unnamed (first_unnamed g.level (terms_of command))) _ none)))))
+  where
+    there : (b : Bool) → nat_le 1 number && nat_le number count ≡ b → (if b then None else Some (NoPart count)) ≡ None
+        → (1 ≤ number) × (number ≤ count)
+    there true is h = let (low, high) = and_parts (nat_le 1 number) (nat_le number count) is in (leb-true 1 number low, leb-true number count high)
+    there false is h = absurd cc
+
+-- and a split finds room in the history
+pub room_of : (g : Ground) (v count : ℕ) (command : Command) → refusal_of g v count command ≡ None → full v command ≡ None
+room_of g v count command none =
+    later_none (no_part count (part_number command)) _
+    (later_none (mislength (dimension g.level g.characteristic) (coordinate_count command)) _
+    (later_none (uncoprime g.level (determinant_of command)) _
+    (later_none (unnamed (first_unnamed g.level (terms_of command))) _ none)))
 
 -- the answer to an image from a source over Merel's set
-pub image_answer : (g : Ground) (history : List SplitEntry) (n : ℕ) (terms : List Term) (numbers : List (ℕ × ℤ)) (L : List Matrix)
+pub image_answer : (g : Ground) (v : ℕ) (s : Decomposition) (n : ℕ) (terms : List Term) (numbers : List (ℕ × ℤ)) (L : List Matrix)
     (reply : Reply) → L ≡ merel_matrices n → numbers ≡ symbol_terms g.level terms
     → TellsCoordinates g (hecke_sum g.level L (sparse g.characteristic (residue_terms g.characteristic numbers))) reply
-    → IsAnswer g history (commands.Image n terms) reply
-image_answer g history n terms numbers L reply list same told =
+    → IsAnswer g v s (commands.Image n terms) reply
+image_answer g v s n terms numbers L reply list same told =
     subst (λ ts. TellsCoordinates g (hecke_sum g.level (merel_matrices n) (sparse g.characteristic (residue_terms g.characteristic ts))) reply) same
     (subst (λ M. TellsCoordinates g (hecke_sum g.level M (sparse g.characteristic (residue_terms g.characteristic numbers))) reply) list told)
 
--- a command that was prepared and answered, or refused for want of memory, is replied to
-pub reply_of : (g : Ground) (history : List SplitEntry) (text : List ℕ) (p : Preparation) (reply : Reply) → Prepares g history text p
-    → IsAnswer g history p.command reply ⊎ (reply ≡ replies.Memory) → IsReply g history text reply ⊎ (reply ≡ replies.Memory)
-reply_of g history text p reply prepared (inr memory) = inr memory
-reply_of g history text p reply prepared (inl answer) = inl (
-    subst (λ reading. UnlessRefused (reading_refusal g history reading) (IsAnswerTo g history reading reply) reply) (sym prepared.command_is)
-    (subst (λ o. UnlessRefused o (IsAnswer g history p.command reply) reply) (sym prepared.unrefused) answer))
+-- what a prepared command comes to its line comes to
+pub line_finished : (g : Ground) (v : ℕ) (s : Decomposition) (text : List ℕ) (p : Preparation) (finish : Finish)
+    → Prepares g v (length s.parts) text p → Finishes g v s p.command finish → FinishesLine g v s text finish
+line_finished g v s text p (outcomes.Reply reply) prepared (inr memory) = inr memory
+line_finished g v s text p (outcomes.Reply reply) prepared (inl (answer, plain)) = inl (
+  subst (λ reading. UnlessRefused (reading_refusal g v (length s.parts) reading) (IsAnswerTo g v s reading reply) reply) (sym prepared.command_is)
+      (subst (λ o. UnlessRefused o (IsAnswer g v s p.command reply) reply) (sym prepared.unrefused) answer),
+  plain,
+)
+line_finished g v s text p (outcomes.Split op poly next sizes) prepared finished = (
+  subst (λ reading. reading_refusal g v (length s.parts) reading ≡ None) (sym prepared.command_is) prepared.unrefused,
+  subst (λ reading. FinishesReading g v s reading (outcomes.Split op poly next sizes)) (sym prepared.command_is) finished,
+)
 
--- its line demands what it demands
-pub line_demand_of : (g : Ground) (history : List SplitEntry) (text : List ℕ) (p : Preparation) → Prepares g history text p
-    → demand g p.command ≡ line_demand g history text
-line_demand_of g history text p prepared =
-    subst (λ reading. demand g p.command ≡ reading_demand (reading_refusal g history reading) g reading) (sym prepared.command_is)
+-- a refusal of the line, or want of memory, is what it comes to
+pub line_refused : (g : Ground) (v : ℕ) (s : Decomposition) (text : List ℕ) (reply : Reply)
+    → Refuses (line_refusal g v (length s.parts) text) reply ⊎ (reply ≡ replies.Memory) → FinishesLine g v s text (outcomes.Reply reply)
+line_refused g v s text reply (inr memory) = inr memory
+line_refused g v s text reply (inl refused) = inl (by (line_refusal g v (length s.parts) text) refused)
+  where
+    no_version : (r : Refusal) → reply ≡ replies.Refused r → IsAccepted reply → ⊥
+    no_version r same accepted = subst IsAccepted same accepted
+
+    by : (o : Option Refusal) → Refuses o reply
+        → UnlessRefused o (IsAnswerTo g v s (command_of text) reply) reply × (IsAccepted reply → ⊥)
+    by None refused = absurd refused
+    by (Some refusal) refused = (refused, no_version refusal refused)
+
+-- the number of parts refuses no command that demands columns
+parts_apart : (g : Ground) (v a b : ℕ) (command : Command) → reading_demand (refusal_of g v a command) g (Ok command)
+    ≡ reading_demand (refusal_of g v b command) g (Ok command)
+parts_apart g v a b (commands.Part number) = nothing_demanded (refusal_of g v a (commands.Part number)) (refusal_of g v b (commands.Part number))
+  where
+    nothing_demanded : (o q : Option Refusal) → reading_demand o g (Ok (commands.Part number)) ≡ reading_demand q g (Ok (commands.Part number))
+    nothing_demanded None None = refl
+    nothing_demanded None (Some r) = refl
+    nothing_demanded (Some r) None = refl
+    nothing_demanded (Some r) (Some t) = refl
+parts_apart g v a b command = refl
+
+pub demand_without_parts : (g : Ground) (v count : ℕ) (reading : Result Command CommandFault)
+    → reading_demand (reading_refusal g v count reading) g reading ≡ reading_demand (reading_refusal g v 0 reading) g reading
+demand_without_parts g v count (Ok command) = parts_apart g v count 0 command
+demand_without_parts g v count (Err faults.OutOfMemory) = refl
+demand_without_parts g v count (Err (faults.Grammar token)) = refl
+demand_without_parts g v count (Err (faults.Limit what)) = refl
+
+-- its line demands what a prepared command demands
+pub line_demand_of : (g : Ground) (v count : ℕ) (text : List ℕ) (p : Preparation) → Prepares g v count text p
+    → demand g p.command ≡ line_demand g v text
+line_demand_of g v count text p prepared =
+    subst (λ reading. demand g p.command ≡ reading_demand (reading_refusal g v count reading) g reading) (sym prepared.command_is)
     (subst (λ o. demand g p.command ≡ reading_demand o g (Ok p.command)) (sym prepared.unrefused) refl)
+    ∙ demand_without_parts g v count (command_of text)
 
 -- what is refused demands nothing
-pub refused_demand : (g : Ground) (history : List SplitEntry) (text : List ℕ) (reply : Reply) (xs : List (ℕ × ℕ))
-    → Refuses (line_refusal g history text) reply ⊎ (reply ≡ replies.Memory)
-    → Gathers (line_demand g history text) reply xs xs
-refused_demand g history text reply xs (inr memory) = record { adds = Adds_refl (line_demand g history text) xs; held = λ some. absurd (some memory) }
-refused_demand g history text reply xs (inl refused) = by (line_refusal g history text) refused
+pub refused_demand : (g : Ground) (v count : ℕ) (text : List ℕ) (reply : Reply) (xs : List (ℕ × ℕ))
+    → Refuses (line_refusal g v count text) reply ⊎ (reply ≡ replies.Memory)
+    → Gathers (line_demand g v text) reply xs xs
+refused_demand g v count text reply xs (inr memory) = record { adds = Adds_refl (line_demand g v text) xs; held = λ some. absurd (some memory) }
+refused_demand g v count text reply xs (inl refused) =
+    subst (λ pairs. Gathers pairs reply xs xs) (demand_without_parts g v count (command_of text)) (by (line_refusal g v count text) refused)
   where
     by : (o : Option Refusal) → Refuses o reply → Gathers (reading_demand o g (command_of text)) reply xs xs
     by None refused = absurd refused

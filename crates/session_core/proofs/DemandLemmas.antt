@@ -1,24 +1,24 @@
 -- Demands: their pairs one after another, and what a command's demand has.
-use Rattle.std.proofs.Common.{◌≡◌, ◌≢◌, ◌+◌, ◌<◌, ◌≤◌, ℕ, ℤ, Bool, true, List, [], ◌∷◌, ◌++◌, length, get_or, take, drop, map, refl, sym, ◌∙◌, ap, subst, arith}
+use Rattle.std.proofs.Common.{◌≡◌, ◌+◌, ◌<◌, ◌≤◌, ℕ, Bool, true, List, [], ◌∷◌, ◌++◌, length, get_or, take, drop, map, refl, sym, ◌∙◌, ap, subst, arith}
 use Rattle.std.specs.List.{Contains, range_with_len}
 use Rattle.std.specs.Set.{is_member}
-use Rattle.std.proofs.lemmas.List.{map_more, map-append, take-append-drop, get_or-map, get_or_default, length-map, length-take}
+use Rattle.std.proofs.lemmas.List.{map_more, map-append, take-append-drop, get_or-map, get_or_default, length-map}
 use Rattle.std.proofs.lemmas.List.FromFn.{map-range_with_len_more, get_or-range_with_len, length-range_with_len}
 use Rattle.std.proofs.lemmas.Map.Views.{list_any-from_Contains, Contains-from_any}
 use Rattle.p1_normal.specs.Points.{symbols}
 use Rattle.quotient_coords.specs.Quotient.{Ground}
 use Rattle.heilbronn_sets.specs.Sets.{Matrices}
+use Rattle.op_polynomials.specs.declared.name.OpName.{OpName}
+use Rattle.op_polynomials.specs.declared.name.OpName.TheVariants as ops
 use Rattle.script_text.specs.declared.command.Command.{Command}
 use Rattle.script_text.specs.declared.command.Command.TheVariants as commands
 use Rattle.script_text.specs.declared.term.Term.{Term}
 use Rattle.session_core.specs.declared.demand.Demand.{Demand}
 use Rattle.session_core.specs.declared.demand.Demand.TheVariants as demands
-use Rattle.reply_text.specs.declared.reply.Reply.{Reply}
-use Rattle.reply_text.specs.declared.reply.Reply.TheVariants.{Memory}
 use Rattle.session_core.specs.Terms.{symbols_of}
-use Rattle.session_core.specs.Demands.{is_pair, Has, HasAll, Adds, Gathers, AreDistinctOf, symbol_pairs, demand, demand_pairs, IsDemand, Serves, ServesDemand}
+use Rattle.session_core.specs.Demands.{is_pair, Has, HasAll, Adds, symbol_pairs, operator_pairs, demand, operator_demand, demand_pairs, IsDemand, Serves, ServesDemand}
 use Rattle.session_core.specs.ColumnTable.{merel, determinant_of_demand}
-use Rattle.session_core.proofs.PairLemmas.{is_pair-eq, is_pair-equivalence, Has-append_left, Has-nil, Adds_trans, Adds-of_more, HasAll-append, HasAll-one, HasAll_grows}
+use Rattle.session_core.proofs.PairLemmas.{is_pair-eq, is_pair-equivalence, Has-append_left, Adds_trans, Adds-of_more, HasAll-append, HasAll-one, HasAll_grows}
 
 -- an image of an element is among the images
 pub Contains-map : {X Y : Type 0} (f : X → Y) (xs : List X) (x : X) → Contains xs x → Contains (map f xs) (f x)
@@ -116,6 +116,11 @@ record SamePairs (a b : List (ℕ × ℕ)) : Type 0 where
 same_none : (N : ℕ) (d : Demand) → d ≡ demands.Nothing → SamePairs (demand_pairs N d) []
 same_none N d none = subst (λ e. SamePairs (demand_pairs N e) []) (sym none) (record { to = λ q h. h; from = λ q h. h })
 
+same_operator : (N : ℕ) (op : OpName) (d : Demand) → d ≡ operator_demand op → SamePairs (demand_pairs N d) (operator_pairs N op)
+same_operator N (ops.T n) d is =
+    subst (λ e. SamePairs (demand_pairs N e) (operator_pairs N (ops.T n))) (sym is) (record { to = λ q h. h; from = λ q h. h })
+same_operator N ops.Star d is = same_none N d is
+
 same_pairs : (g : Ground) (command : Command) (d : Demand) → IsDemand g command d → SamePairs (demand_pairs g.level d) (demand g command)
 same_pairs g (commands.Image n terms) d (given, is, same) =
     subst (λ e. SamePairs (demand_pairs g.level e) (symbol_pairs n (symbols_of g.level terms))) (sym is) (record {
@@ -129,10 +134,10 @@ same_pairs g (commands.Certify terms) d is = same_none g.level d is
 same_pairs g (commands.Star terms) d is = same_none g.level d is
 same_pairs g (commands.Boundary terms) d is = same_none g.level d is
 same_pairs g commands.Cusps d is = same_none g.level d is
-same_pairs g (commands.Operator op) d is = same_none g.level d is
-same_pairs g (commands.Apply op coords) d is = same_none g.level d is
-same_pairs g (commands.Poly op coefficients coords) d is = same_none g.level d is
-same_pairs g (commands.Split op coefficients) d is = same_none g.level d is
+same_pairs g (commands.Operator op) d is = same_operator g.level op d is
+same_pairs g (commands.Apply op coords) d is = same_operator g.level op d is
+same_pairs g (commands.Poly op coefficients coords) d is = same_operator g.level op d is
+same_pairs g (commands.Split op coefficients) d is = same_operator g.level op d is
 same_pairs g commands.Show d is = same_none g.level d is
 same_pairs g (commands.Part number) d is = same_none g.level d is
 same_pairs g (commands.Chains n) d is = same_none g.level d is

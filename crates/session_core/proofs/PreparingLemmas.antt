@@ -1,5 +1,5 @@
 -- What prepares a command: its distinct symbols, its number, and what a line is read as.
-use Rattle.std.proofs.Common.{◌≡◌, ◌<◌, ℕ, ℤ, Bool, true, false, List, [], map, All, Option, None, Some, Result, Ok, Err, IfOk, nat_eq, if◌then◌else◌, length, get_or, refl, sym, subst}
+use Rattle.std.proofs.Common.{◌≡◌, ◌<◌, ℕ, ℤ, Bool, true, false, List, [], map, All, None, Some, Result, Ok, Err, IfOk, nat_eq, if◌then◌else◌, get_or, refl, sym, ◌∙◌, ap, subst}
 use Rattle.std.specs.List.{Contains, dedup}
 use Rattle.std.specs.List.Sorted.{IsStrictlyIncreasing, IsPermutation, IsSorted}
 use Rattle.std.specs.List.Retain.{IsFiltered, DiffersFromLast}
@@ -11,13 +11,13 @@ use Rattle.std.proofs.lemmas.List.Kept.{Contains-dedup_nat, Contains-from_dedup}
 use Rattle.std.proofs.lemmas.List.Sorted.{Contains-permutation, IsPermutation-sym}
 use Rattle.std.proofs.lemmas.Map.Keys.{IsStrictlyIncreasing-dedup}
 use Rattle.p1_normal.specs.Units.{gcd}
-use Rattle.quotient_coords.specs.Quotient.{Ground}
-use Rattle.op_polynomials.specs.declared.entry.SplitEntry.{SplitEntry}
+use Rattle.quotient_coords.specs.Quotient.{Ground, dimension}
 use Rattle.script_text.specs.declared.command.Command.{Command}
 use Rattle.script_text.specs.Commands.{command_of}
 use Rattle.reply_text.specs.declared.refusal.Refusal.TheVariants.{NotCoprime}
 use Rattle.reply_text.specs.declared.reply.Reply.{Reply}
-use Rattle.session_core.specs.Refusals.{uncoprime, refusal_of}
+use Rattle.session_core.specs.Refusals.{uncoprime, refusal_of, first_of, unnamed, determinant_of, mislength, coordinate_count, no_part, part_number, full}
+use Rattle.session_core.specs.Terms.{first_unnamed, terms_of}
 use Rattle.session_core.specs.Demands.{AreDistinctOf, Preparation}
 use Rattle.session_core.specs.Replies.{Prepares}
 use Rattle.session_core.proofs.DemandLemmas.{Contains-from_map}
@@ -52,13 +52,30 @@ coprime_of N n h = by (nat_eq (gcd n N) 1) (eqb-true (gcd n N) 1) h
     by false f h = absurd cc
 
 -- what is said of a command that was prepared from a line
-pub prepares_of : (g : Ground) (history : List SplitEntry) (text : List ℕ) (command : Command) (result : Result Preparation Reply)
+pub prepares_of : (g : Ground) (v count : ℕ) (text : List ℕ) (command : Command) (result : Result Preparation Reply)
     → command_of text ≡ Ok command
-    → IfOk result (λ p. p.ground ≡ g) → IfOk result (λ p. p.command ≡ command) → IfOk result (λ _. refusal_of g history command ≡ None)
-    → IfOk result (Prepares g history text)
-prepares_of g history text command (Ok p) read at is none = record {
+    → IfOk result (λ p. p.ground ≡ g) → IfOk result (λ p. p.version ≡ v) → IfOk result (λ p. p.parts ≡ count)
+    → IfOk result (λ p. p.command ≡ command) → IfOk result (λ _. refusal_of g v count command ≡ None)
+    → IfOk result (Prepares g v count text)
+prepares_of g v count text command (Ok p) read at version parts is none = record {
   at_ground = at;
+  at_version = version;
+  with_parts = parts;
   command_is = subst (λ c. command_of text ≡ Ok c) (sym is) read;
-  unrefused = subst (λ c. refusal_of g history c ≡ None) (sym is) none;
+  unrefused = subst (λ c. refusal_of g v count c ≡ None) (sym is) none;
 }
-prepares_of g history text command (Err reply) read at is none = tt
+prepares_of g v count text command (Err reply) read at version parts is none = tt
+
+-- a command that none of the refusals refuses
+pub unrefused_of : (g : Ground) (v count : ℕ) (command : Command) → first_unnamed g.level (terms_of command) ≡ None
+    → uncoprime g.level (determinant_of command) ≡ None → mislength (dimension g.level g.characteristic) (coordinate_count command) ≡ None
+    → no_part count (part_number command) ≡ None → full v command ≡ None → refusal_of g v count command ≡ None
+unrefused_of g v count command named coprime sized there room =
+    ap (λ o. first_of (unnamed o) (first_of (uncoprime g.level (determinant_of command))
+    (first_of (mislength (dimension g.level g.characteristic) (coordinate_count command))
+    (first_of (no_part count (part_number command)) (full v command))))) named
+    ∙ ap (λ o. first_of o (first_of (mislength (dimension g.level g.characteristic) (coordinate_count command))
+    (first_of (no_part count (part_number command)) (full v command)))) coprime
+    ∙ ap (λ o. first_of o (first_of (no_part count (part_number command)) (full v command))) sized
+    ∙ ap (λ o. first_of o (full v command)) there
+    ∙ room

@@ -1,11 +1,11 @@
 -- Terms one after another: the first that names no point, and the places of their symbols.
-use Rattle.std.proofs.Common.{◌≡◌, ◌≢◌, ◌+◌, ◌<◌, ◌≤◌, ℕ, ℤ, pos, true, false, not, cond, List, [], ◌∷◌, ◌++◌, length, get_or, take, All, Some, None, nat_lt, refl, sym, ◌∙◌, ap, subst, below_more, eq-eqb, arith}
+use Rattle.std.proofs.Common.{◌≡◌, ◌≢◌, ◌+◌, ◌<◌, ◌≤◌, ℕ, ℤ, pos, true, false, not, cond, List, [], ◌∷◌, ◌++◌, length, get_or, take, All, Some, None, nat_lt, sym, ◌∙◌, ap, subst, below_more, eq-eqb, arith}
 use Rattle.std.specs.List.{position_or_len}
-use Rattle.std.proofs.lemmas.Bool.{le-ltb, lt-ltb, ne_eqb, eqb-true, false≢true}
+use Rattle.std.proofs.lemmas.Bool.{le-ltb, lt-ltb, ne_eqb}
 use Rattle.std.proofs.lemmas.List.{map_more}
 use Rattle.std.proofs.lemmas.List.Sums.{position_or_len_is}
 use Rattle.std.proofs.lemmas.List.Elements.{All-map}
-use Rattle.linear_algebra.specs.Vector.{Vector, EndsBefore}
+use Rattle.linear_algebra.specs.Vector.{EndsBefore}
 use Rattle.linear_algebra.specs.Sparse.{sparse, IsCombo}
 use Rattle.linear_algebra.proofs.SparseLaws.{EndsBefore-sparse}
 use Rattle.linear_algebra.specs.Integers.{residue_of}

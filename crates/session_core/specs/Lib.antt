@@ -2,8 +2,10 @@ pub mod Terms
 pub mod Refusals
 pub mod Answers
 pub mod Demands
+pub mod Operators
 pub mod Prepared
 pub mod Replies
 pub mod Transcripts
+pub mod SoloRuns
 pub mod ColumnTable
 pub mod Hosts

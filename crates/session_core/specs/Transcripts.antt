@@ -4,7 +4,6 @@
 --                               after the history up to that version, or want of memory
 --   AreReplyLines g history ls rs
 --                               the reply lines of the command lines of a session, which are numbered from 1
---   IsAccepted reply            the reply is that of an accepted split
 --   Follows r s                 the reply line s can stand after r in a session: versions do not fall, and they grow after an accepted split
 --   IsAnsweredBy script t s c l r
 --                               in the transcript r is the reply line of the command line l, which is number c of session s, both from 0
@@ -18,20 +17,18 @@
 --     rising                    versions in each session
 --     entered                   each accepted split is an entry of the history
 --     entries                   each entry of the history is that of an accepted split
---   HoldsDemand g history pairs l r
---                               the pairs that a command line demands are among these pairs, where its reply is not want of memory
+--   HoldsDemand g pairs l r     the pairs that a command line demands at the version of its reply line are among these pairs, where its reply
+--                               is not want of memory
 --   CountsColumns script t      its number of columns is that of some distinct pairs: each is demanded by a line, and each that is
 --                               demanded by a line whose reply is not want of memory is there
 --   IsLegalRun script t         a legal transcript that counts its columns
 --   HasNoMemory t               no reply is want of memory
---   TranscriptsAreUnique        a script has one legal run, where no reply is want of memory
---   ColumnsAreDemanded          then it counts the distinct pairs that the commands demand
---   NothingIsSplit              in a legal transcript the history is empty and each version is 0, until splits are answered
-use Rattle.std.specs.Prelude.{◌≡◌, ◌≢◌, ℕ, ℤ, ◌+◌, ◌<◌, ◌≤◌, ◌⊎◌, List, [], length, map, take, All, Option, Some, Ok, slice_get}
+--   ColumnsAreDemanded          then a legal run whose history has fewer than MAX_VERSIONS entries counts the distinct pairs that its
+--                               commands demand
+use Rattle.std.specs.Prelude.{◌≡◌, ◌≢◌, ℕ, ℤ, ◌+◌, ◌<◌, ◌≤◌, ◌⊎◌, List, length, map, take, All, Some, Ok, slice_get}
 use Rattle.std.specs.List.{AllPairs, AllZip, IsDistinct, enumerate_from}
 use Rattle.std.specs.Set.{distinct_count}
 use Rattle.linear_algebra.specs.Integers.{residue_of}
-use Rattle.field_table.specs.Table.{IsListed}
 use Rattle.p1_normal.specs.Points.{symbols}
 use Rattle.quotient_coords.specs.Quotient.{Ground, ground_of}
 use Rattle.op_polynomials.specs.declared.entry.SplitEntry.{SplitEntry}
@@ -39,12 +36,11 @@ use Rattle.script_text.specs.declared.command.Command.TheVariants.{Split}
 use Rattle.script_text.specs.Commands.{command_of}
 use Rattle.script_text.specs.Numbered.{NumberedLine}
 use Rattle.script_text.specs.Valid.{ScriptText}
-use Rattle.reply_text.specs.declared.reply.Reply.{Reply}
 use Rattle.reply_text.specs.declared.reply.Reply.TheVariants as replies
 use Rattle.reply_text.specs.declared.transcript.ReplyLine.{ReplyLine}
 use Rattle.reply_text.specs.declared.transcript.Transcript.{Transcript}
 use Rattle.reply_text.specs.declared.limits.TheConstants.{MAX_VERSIONS}
-use Rattle.session_core.specs.Replies.{IsReply}
+use Rattle.session_core.specs.Replies.{IsReply, IsAccepted}
 use Rattle.session_core.specs.Demands.{is_pair, Has, HasAll, line_demand, script_demand}
 
 abbrev pub script_ground : ScriptText → Ground
@@ -57,10 +53,6 @@ pub record IsReplyLine (g : Ground) (history : List SplitEntry) (line : ℕ × N
 
 abbrev pub AreReplyLines : Ground → List SplitEntry → List NumberedLine → List ReplyLine → Type 0
 AreReplyLines g history lines told = AllZip (IsReplyLine g history) (enumerate_from 1 lines) told
-
-abbrev pub IsAccepted : Reply → Type 0
-IsAccepted (replies.Version number dims) = Unit {0}
-IsAccepted reply = ⊥
 
 pub record Follows (r s : ReplyLine) : Type 0 where
   pub no_earlier : r.version ≤ s.version
@@ -100,15 +92,15 @@ pub record IsLegalTranscript (script : ScriptText) (t : Transcript) : Type 0 whe
       (s : ℕ) × (c : ℕ) × (line : NumberedLine) × (r : ReplyLine) × IsAnsweredBy script t s c line r
       × (r.version ≡ w) × IsEntry (script_ground script) (s + 1) line.text r e
 
-abbrev pub HoldsDemand : Ground → List SplitEntry → List (ℕ × ℕ) → NumberedLine → ReplyLine → Type 0
-HoldsDemand g history pairs line r = r.reply ≢ replies.Memory → HasAll pairs (line_demand g (take r.version history) line.text)
+abbrev pub HoldsDemand : Ground → List (ℕ × ℕ) → NumberedLine → ReplyLine → Type 0
+HoldsDemand g pairs line r = r.reply ≢ replies.Memory → HasAll pairs (line_demand g r.version line.text)
 
 pub record CountsColumns (script : ScriptText) (t : Transcript) : Type 0 where
   pub pairs : List (ℕ × ℕ)
   pub distinct : IsDistinct is_pair pairs
   pub counted : t.columns ≡ length pairs
   pub only : (q : ℕ × ℕ) → Has pairs q → Has (script_demand (script_ground script) script.sessions) q
-  pub held : AllZip (AllZip (HoldsDemand (script_ground script) t.history pairs)) script.sessions t.sessions
+  pub held : AllZip (AllZip (HoldsDemand (script_ground script) pairs)) script.sessions t.sessions
 
 pub record IsLegalRun (script : ScriptText) (t : Transcript) : Type 0 where
   pub legal : IsLegalTranscript script t
@@ -117,14 +109,6 @@ pub record IsLegalRun (script : ScriptText) (t : Transcript) : Type 0 where
 abbrev pub HasNoMemory : Transcript → Type 0
 HasNoMemory t = All (λ told. All (λ r. r.reply ≢ replies.Memory) told) t.sessions
 
-abbrev pub TranscriptsAreUnique : Type 0
-TranscriptsAreUnique = (script : ScriptText) (s t : Transcript) → IsListed script.space.characteristic
-    → IsLegalRun script s → IsLegalRun script t → HasNoMemory s → HasNoMemory t → s ≡ t
-
 abbrev pub ColumnsAreDemanded : Type 0
-ColumnsAreDemanded = (script : ScriptText) (t : Transcript) → IsLegalRun script t → HasNoMemory t
+ColumnsAreDemanded = (script : ScriptText) (t : Transcript) → IsLegalRun script t → HasNoMemory t → length t.history < MAX_VERSIONS
     → t.columns ≡ distinct_count is_pair (script_demand (script_ground script) script.sessions)
-
-abbrev pub NothingIsSplit : Type 0
-NothingIsSplit = (script : ScriptText) (t : Transcript) → IsLegalTranscript script t
-    → (t.history ≡ []) × All (λ told. All (λ r. r.version ≡ 0) told) t.sessions

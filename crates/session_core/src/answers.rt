@@ -3,4 +3,6 @@
 pub mod coordinates;
 pub mod cusps;
 pub mod hecke;
+pub mod operators;
 pub mod points;
+pub mod splits;

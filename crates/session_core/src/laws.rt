@@ -1,9 +1,28 @@
-ghost use Rattle.session_core.specs.Transcripts.{ColumnsAreDemanded, NothingIsSplit, TranscriptsAreUnique};
+ghost use Rattle.session_core.specs.Operators.{ImagesAreSums};
+ghost use Rattle.session_core.specs.SoloRuns.{SoloColumnsAreDemanded, SoloRunsAreLegal, SoloRunsAreUnique};
+ghost use Rattle.session_core.specs.Transcripts.{ColumnsAreDemanded};
 
-/// A script has one legal run, where no reply is want of memory, and its columns are as many as the distinct pairs
-/// that its commands demand. No split is accepted yet, so the history is empty and each version is 0.
-pub fn transcripts_are_unique()
-    ensures law { TranscriptsAreUnique }
-    ensures columns { ColumnsAreDemanded }
-    ensures unsplit { NothingIsSplit }
+/// Lines that are answered one after another make a legal run: each reply stands at the version that the accepted splits
+/// before it made, these splits are the history, and the columns are those that its lines demand.
+pub fn solo_runs_are_legal()
+    ensures law { SoloRunsAreLegal }
+{}
+
+/// A script has one such run, where no reply is want of memory, and its columns are as many as the distinct pairs that
+/// its commands demand, each at the version of its reply.
+pub fn solo_runs_are_unique()
+    ensures law { SoloRunsAreUnique }
+    ensures columns { SoloColumnsAreDemanded }
+{}
+
+/// The columns of a legal run of any host are as many as the distinct pairs that its commands demand, where no reply is
+/// want of memory and the history is not full.
+pub fn columns_are_demanded()
+    ensures law { ColumnsAreDemanded }
+{}
+
+/// The reply to `apply`, where its operator is accepted, is the coordinates of Merel's sum, or of star, of every combination
+/// that has the given coordinates. So congruent combinations have congruent images.
+pub fn images_are_sums()
+    ensures law { ImagesAreSums }
 {}

@@ -18,7 +18,7 @@ mod tests;
 pub use demand::Demand;
 pub use finishing::finish;
 pub use host::Host;
-pub use laws::transcripts_are_unique;
+pub use laws::{columns_are_demanded, images_are_sums, solo_runs_are_legal, solo_runs_are_unique};
 pub use outcome::Finish;
 pub use prepared::Prepared;
 pub use preparing::prepare;

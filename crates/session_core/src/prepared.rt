@@ -10,12 +10,15 @@ use crate::demand::Demand;
 use script_text::Command;
 use std::marker::Model;
 
-/// A command that nothing refuses, made ready for its answer: its terms by the numbers of their symbols, and the
-/// columns that it demands. Contracts see the ground (the level and the characteristic), the command and the demand.
+/// A command that nothing refuses at a version, made ready for its answer: its terms by the numbers of their symbols, and
+/// the columns that it demands. Contracts see the ground (the level and the characteristic), the version's number and its
+/// number of parts, the command and the demand.
 #[derive(Drop)]
 pub struct Prepared {
     pub(crate) modulus: u32,
     pub(crate) characteristic: u32,
+    pub(crate) version: u32,
+    pub(crate) parts: u32,
     pub(crate) command: Command,
     pub(crate) numbers: Vec<(u32, i64)>,
     pub(crate) demand: Demand,
@@ -28,10 +31,16 @@ impl Model for Prepared {
 
     ghost Value = { Preparation };
 
-    ghost view = { λ p. record { ground = ground_of p.modulus p.characteristic; command = p.command; demand = p.demand } };
+    ghost view = { λ p. record {
+      ground = ground_of p.modulus p.characteristic;
+      version = p.version;
+      parts = p.parts;
+      command = p.command;
+      demand = p.demand;
+    } };
 
     ghost invariant = { λ p. IsPrepared
-        (ground_of p.modulus p.characteristic) p.command p.numbers.items p.demand };
+        (ground_of p.modulus p.characteristic) p.version p.parts p.command p.numbers.items p.demand };
 }
 
 impl Prepared {
@@ -49,10 +58,16 @@ impl Prepared {
     pub fn command(&self) -> &Command
         ensures value { result.now ≡ self.now.command }
         ensures within { IsWithin result.now }
-        ensures unrefused { (history : List SplitEntry) →
-            refusal_of self.now.ground history result.now ≡ None }
+        ensures unrefused { refusal_of self.now.ground self.now.version self.now.parts result.now ≡ None }
     {
         &self.command
+    }
+
+    /// The number of the version at which the command was prepared.
+    pub fn version(&self) -> u32
+        ensures { result ≡ self.now.version }
+    {
+        self.version
     }
 
     // The terms of the command, each by the number of its symbol.

@@ -1,12 +1,12 @@
-ghost use Rattle.std.specs.Prelude.{◌≡◌, ◌<◌, All, IfOk, IfSome, IsSome, List, OnOk, length, map};
+ghost use Rattle.std.specs.Prelude.{ℕ, ◌≡◌, ◌<◌, All, IfOk, IfSome, IsSome, List, OnOk, length, map};
 ghost use Rattle.cusps_boundary.specs.Cusps.{cusps as cusps_of};
 ghost use Rattle.field_table.specs.Terms.{residue_terms};
 ghost use Rattle.linear_algebra.specs.Sparse.{sparse};
-ghost use Rattle.op_polynomials.specs.declared.entry.SplitEntry.{SplitEntry};
 ghost use Rattle.p1_normal.specs.Points.{symbol_at, symbols};
 ghost use Rattle.quotient_coords.specs.Quotient.{Ground};
 ghost use Rattle.script_text.specs.declared.command.Command.TheVariants as commands;
 ghost use Rattle.session_core.specs.Answers.{IsAnswer, TellsBoundary};
+ghost use Rattle.split_state.specs.Decomposition.{Decomposition};
 
 use crate::terms::combination_of;
 use cusps_boundary::Cusps;
@@ -70,8 +70,8 @@ fn boundary_over(
 pub fn cusps(alloc: Global, level: &Level, table: &mut Option<Cusps>) -> Result<Reply, OutOfMemory>
     requires cusps { IfSome table.old (λ c. c ≡ level.now) }
     ensures cusps { IfSome table.new (λ c. c ≡ level.now) }
-    ensures reply { (g : Ground) (history : List SplitEntry) → g.level ≡ level.now →
-        IfOk result (IsAnswer g history commands.Cusps) }
+    ensures reply { (g : Ground) (v : ℕ) (s : Decomposition) → g.level ≡ level.now →
+        IfOk result (IsAnswer g v s commands.Cusps) }
 {
     hold_cusps(alloc, level, table)?;
     match table {

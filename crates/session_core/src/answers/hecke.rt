@@ -4,10 +4,10 @@ ghost use Rattle.std.specs.Ordering.{int_eq};
 ghost use Rattle.field_table.specs.Terms.{residue_terms};
 ghost use Rattle.hecke_columns.specs.Hecke.{hecke_sum};
 ghost use Rattle.linear_algebra.specs.Sparse.{sparse};
-ghost use Rattle.op_polynomials.specs.declared.entry.SplitEntry.{SplitEntry};
 ghost use Rattle.quotient_coords.specs.Quotient.{AreCoordinates, Ground};
 ghost use Rattle.script_text.specs.declared.command.Command.TheVariants as commands;
 ghost use Rattle.session_core.specs.Answers.{IsAnswer, TellsCoordinates};
+ghost use Rattle.split_state.specs.Decomposition.{Decomposition};
 
 use field_table::{OutOfMemory, Residues};
 use hecke_columns::ColumnSource;
@@ -79,8 +79,8 @@ fn starts_among(list: &[Matrix]) -> u32
 /// it has. Makes a set of its own.
 pub fn chains(alloc: Global, n: u32) -> Result<Reply, OutOfMemory>
     requires limits { (0 < n) × (n ≤ MAX_DET) }
-    ensures { (g : Ground) (history : List SplitEntry) →
-        IfOk result (IsAnswer g history (commands.Chains n)) }
+    ensures { (g : Ground) (v : ℕ) (s : Decomposition) →
+        IfOk result (IsAnswer g v s (commands.Chains n)) }
 {
     let set = match merel_set(alloc, n) {
         Ok(set) => set,

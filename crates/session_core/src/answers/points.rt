@@ -1,5 +1,4 @@
-ghost use Rattle.std.specs.Prelude.{◌≡◌, ◌<◌, ◌∷◌, [], All, IfOk, List, None, length, map};
-ghost use Rattle.op_polynomials.specs.declared.entry.SplitEntry.{SplitEntry};
+ghost use Rattle.std.specs.Prelude.{ℕ, ◌≡◌, ◌<◌, ◌∷◌, [], All, IfOk, List, None, length, map};
 ghost use Rattle.p1_normal.specs.Points.{symbol_at, symbols};
 ghost use Rattle.quotient_coords.specs.Quotient.{free_symbols};
 ghost use Rattle.reply_text.specs.declared.reply.Reply.TheVariants as replies;
@@ -7,6 +6,7 @@ ghost use Rattle.script_text.specs.declared.term.Term.{Term};
 ghost use Rattle.script_text.specs.declared.command.Command.TheVariants as commands;
 ghost use Rattle.session_core.specs.Answers.{IsAnswer};
 ghost use Rattle.session_core.specs.Terms.{first_unnamed, symbol_of, symbol_terms};
+ghost use Rattle.split_state.specs.Decomposition.{Decomposition};
 
 use field_table::OutOfMemory;
 use p1_normal::Point;
@@ -40,8 +40,8 @@ fn free_points(alloc: Global, space: &Space) -> Result<Vec<Point>, OutOfMemory>
 
 /// The free symbols, in rising order.
 pub fn basis(alloc: Global, space: &Space) -> Result<Reply, OutOfMemory>
-    ensures { (history : List SplitEntry) →
-        IfOk result (IsAnswer space.now history commands.Basis) }
+    ensures { (v : ℕ) (s : Decomposition) →
+        IfOk result (IsAnswer space.now v s commands.Basis) }
 {
     let points = Points::of(free_points(alloc, space)?);
     Ok(Reply::Basis { points })
