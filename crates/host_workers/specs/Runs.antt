@@ -1,9 +1,9 @@
 -- What a run leaves behind.
 --   is_solo words    the words of the command line are the one word `solo`
 --   Stream           the bytes that a source has left or that a sink has taken, where it tells them
---   Writes bytes P   the bytes are a script, and P holds of the text of a legal run of it
+--   Writes bytes P   the bytes are a script, and P holds of the text of a run of it on one thread, which is a legal run (law `solo_runs_are_legal`)
 --   LeavesSolo ..    what a run of `solo` leaves, from the streams and their counts of faults before and after, and its status:
---     done           the text of a legal run of the script that was left was appended
+--     done           the text of such a run of the script that was left was appended
 --     ended          the input was read to its end, also where it is no script
 --     write_fault    the output's count rose, and a part of such a text was appended
 --     read_fault     the input's count rose
@@ -29,7 +29,7 @@ use Rattle.reply_text.specs.Transcripts.{transcript_text}
 use Rattle.host_workers.specs.declared.status.Status.{Status}
 use Rattle.host_workers.specs.declared.status.Status.TheVariants.{Done, Usage, ReadFault, WriteFault, TooLong, BadScript}
 use Rattle.host_workers.specs.declared.status.TheConstants.{MAX_INPUT}
-use Rattle.session_core.specs.Transcripts.{IsLegalRun}
+use Rattle.session_core.specs.SoloRuns.{IsSoloRun}
 
 abbrev pub Stream : Type 0
 Stream = Option (List ℕ)
@@ -38,7 +38,7 @@ pub record Writes (bytes : List ℕ) (P : List ℕ → Type 0) : Type 0 where
   pub script : ScriptText
   pub is_script : script_of bytes ≡ Ok script
   pub transcript : Transcript
-  pub is_run : IsLegalRun script transcript
+  pub is_run : IsSoloRun script transcript
   pub text : P (transcript_text transcript)
 
 pub record LeavesUnread (left_before left_after written_before written_after : Stream) (read_before read_after write_before write_after : ℕ) : Type 0 where

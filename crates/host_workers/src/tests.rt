@@ -13,7 +13,7 @@ const COORDS: &[u8] =
     b"space 11 101\r\n\n# note\nsession\nreduce 1:1:4\ncertify 1:1:4\ncertify 1:0:1\nreduce 2:1:5 -1:0:1 1:1:7\nreduce\nsession\nbasis\nshow\nreduce 1:1:2 1:11:0\nimage 2 1:0";
 
 const ANSWERS: &[u8] =
-    b"transcript 1\nspace 11 101 symbols 12\nsession 1\n1 @0 ok coords 0 100 1\n2 @0 ok certified 0 100 1 by 4:100 15:1\n3 @0 ok certified 1 0 0 by\n4 @0 ok coords 100 99 100\n5 @0 ok coords 0 0 0\nsession 2\n1 @0 ok basis 3 (0:1) (1:2) (1:3)\n2 @0 err unbuilt\n3 @0 err not_symbol 2\n4 @0 err grammar 3\nhistory 0\ncolumns 0\nend\n";
+    b"transcript 1\nspace 11 101 symbols 12\nsession 1\n1 @0 ok coords 0 100 1\n2 @0 ok certified 0 100 1 by 4:100 15:1\n3 @0 ok certified 1 0 0 by\n4 @0 ok coords 100 99 100\n5 @0 ok coords 0 0 0\nsession 2\n1 @0 ok basis 3 (0:1) (1:2) (1:3)\n2 @0 ok splitting 0 dims 3 ops\n3 @0 err not_symbol 2\n4 @0 err grammar 3\nhistory 0\ncolumns 0\nend\n";
 
 const IMAGES: &[u8] =
     b"space 11 101\nsession\nimage 2 1:0:1\nimage 2 1:1:2\nimage 2 1:1:3\nimage 3 1:0:1\nimage 1 1:1:3\nchains 4\nchains 3\nsession\nimage 2\nimage 2 1:0:1\nimage 22 1:0:1\nimage 22 1:11:0\nimage 201 1:0:1\nchains 0\n";
@@ -43,6 +43,18 @@ const STARS: &[u8] =
 const STARS_ANSWERS: &[u8] =
     b"transcript 1\nspace 11 101 symbols 12\nsession 1\n1 @0 ok coords 0 1 100\n2 @0 ok boundary 1 100\n3 @0 ok boundary 0 0\n4 @0 ok cusps 2 (0:1) (1:0)\n5 @0 ok coords 0 0 0\n6 @0 ok boundary 0 0\nhistory 0\ncolumns 0\nend\n";
 
+const SPLITS: &[u8] =
+    b"space 11 101\nsession\nsplit T2 -3,1\nshow\npart 1\npart 2\noperator T2\napply T2 1 0 0\npoly T2 -3,1 1 81 0\nsplit star -1,1\n";
+
+const SPLITS_ANSWERS: &[u8] =
+    b"transcript 1\nspace 11 101 symbols 12\nsession 1\n1 @0 ok version 1 dims 1 2\n2 @1 ok splitting 1 dims 1 2 ops T2\n3 @1 ok rows 1 81 0\n4 @1 ok rows 0 1 0 ; 0 0 1\n5 @1 ok operator 3 trace 100\n6 @1 ok coords 3 1 0\n7 @1 ok coords 0 0 0\n8 @1 ok version 2 dims 1 1 1\nhistory 2\n1 s1 c1 T2 98,1\n2 s1 c8 star 100,1\ncolumns 12\nend\n";
+
+const OPERATORS: &[u8] =
+    b"space 11 101\nsession\noperator star\noperator T3\napply star 0 0 1\napply T2 1 2\nsession\npoly T2 0 1 2 3\nsplit T22 1\npart 2\npart 0\npart 1\n";
+
+const OPERATORS_ANSWERS: &[u8] =
+    b"transcript 1\nspace 11 101 symbols 12\nsession 1\n1 @0 ok operator 3 trace 1\n2 @0 ok operator 3 trace 2\n3 @0 ok coords 0 1 100\n4 @0 err length 3 2\nsession 2\n1 @0 ok coords 0 0 0\n2 @0 err not_coprime 11\n3 @0 err no_part 1\n4 @0 err no_part 1\n5 @0 ok rows 1 0 0 ; 0 1 0 ; 0 0 1\nhistory 0\ncolumns 24\nend\n";
+
 // A script with the calls of the input and of the output that fail, the room of the output, the status and what is written.
 #[derive(Clone, Copy)]
 struct Case {
@@ -69,7 +81,7 @@ fn bad(script: &'static [u8], line: u32, cause: ScriptCause) -> Case {
     plain(script, Status::BadScript { line, cause }, b"")
 }
 
-fn cases() -> [Case; 14] {
+fn cases() -> [Case; 16] {
     [
         plain(SCRIPT, Status::Done, TRANSCRIPT),
         plain(COORDS, Status::Done, ANSWERS),
@@ -78,6 +90,8 @@ fn cases() -> [Case; 14] {
         plain(LEVEL_ONE, Status::Done, LEVEL_ONE_ANSWERS),
         plain(STARS, Status::Done, STARS_ANSWERS),
         plain(CUSPS, Status::Done, CUSPS_ANSWERS),
+        plain(SPLITS, Status::Done, SPLITS_ANSWERS),
+        plain(OPERATORS, Status::Done, OPERATORS_ANSWERS),
         Case {
             read_fails: &[1],
             ..plain(SCRIPT, Status::ReadFault, b"")

@@ -1,8 +1,9 @@
-ghost use Rattle.std.specs.Prelude.{◌≡◌, ◌≤◌, [], IfOk, OnOk, length};
-ghost use Rattle.std.specs.List.{AllZip};
+ghost use Rattle.std.specs.Prelude.{◌≡◌, ◌≤◌, IfOk, length};
+ghost use Rattle.std.specs.List.{AllZip, enumerate_from};
 ghost use Rattle.script_text.specs.Valid.{command_count};
-ghost use Rattle.session_core.specs.Demands.{Adds, script_demand, session_demand};
-ghost use Rattle.session_core.specs.Transcripts.{AreReplyLines, HoldsDemand, IsLegalRun, script_ground};
+ghost use Rattle.session_core.specs.Demands.{Adds, told_demand, told_demands};
+ghost use Rattle.session_core.specs.SoloRuns.{AnswersLines, AnswersSessions, IsSoloRun};
+ghost use Rattle.session_core.specs.Transcripts.{HoldsDemand, script_ground};
 
 use field_table::{Field, OutOfMemory};
 use p1_normal::{Level, LevelFault};
@@ -21,14 +22,13 @@ fn session_replies(
 ) -> Result<SessionReplies, OutOfMemory>
     requires few { length lines.now ≤ MAX_COMMANDS }
     requires session { (1 ≤ session) × (session ≤ host.old.sessions) }
-    requires unsplit { host.old.history ≡ [] }
-    ensures replies { IfOk result (AreReplyLines host.old.ground [] lines.now) }
+    ensures answers { IfOk result (λ told. AnswersLines host.old.ground session host.old.history
+        (enumerate_from 1 lines.now) told host.new.history) }
     ensures ground { host.new.ground ≡ host.old.ground }
     ensures sessions { host.new.sessions ≡ host.old.sessions }
-    ensures unsplit { host.new.history ≡ [] }
-    ensures adds { OnOk result (Adds
-        (session_demand host.old.ground lines.now) host.old.pairs host.new.pairs) }
-    ensures held { IfOk result (AllZip (HoldsDemand host.old.ground [] host.new.pairs) lines.now) }
+    ensures adds { IfOk result (λ told. Adds
+        (told_demand host.old.ground lines.now told) host.old.pairs host.new.pairs) }
+    ensures held { IfOk result (AllZip (HoldsDemand host.old.ground host.new.pairs) lines.now) }
 {
     let mut replies = Vec::with_capacity(alloc, lines.len())?;
     let mut number = 1;
@@ -48,13 +48,12 @@ fn script_replies(
     requires sessions { length sessions.now ≤ MAX_SESSIONS }
     requires commands { command_count sessions.now ≤ MAX_COMMANDS }
     requires host { host.old.sessions ≡ length sessions.now }
-    requires unsplit { host.old.history ≡ [] }
-    ensures replies { IfOk result (AllZip (AreReplyLines host.old.ground []) sessions.now) }
-    ensures unsplit { host.new.history ≡ [] }
-    ensures adds { OnOk result (Adds
-        (script_demand host.old.ground sessions.now) host.old.pairs host.new.pairs) }
+    ensures answers { IfOk result (λ all. AnswersSessions host.old.ground 1 host.old.history sessions.now all
+        host.new.history) }
+    ensures adds { IfOk result (λ all. Adds
+        (told_demands host.old.ground sessions.now all) host.old.pairs host.new.pairs) }
     ensures held { IfOk result (AllZip (AllZip
-        (HoldsDemand host.old.ground [] host.new.pairs)) sessions.now) }
+        (HoldsDemand host.old.ground host.new.pairs)) sessions.now) }
 {
     let mut all = Vec::with_capacity(alloc, sessions.len())?;
     let mut number = 1;
@@ -83,7 +82,7 @@ fn space_of(alloc: Global, script: &Script) -> Result<Space, OutOfMemory>
 
 /// The transcript of a script, its sessions run one after another.
 pub fn transcript_of(alloc: Global, script: &Script) -> Result<Transcript, OutOfMemory>
-    ensures { IfOk result (IsLegalRun script.now) }
+    ensures { IfOk result (IsSoloRun script.now) }
 {
     let space = space_of(alloc, script)?;
     let symbols = space.level().count();
