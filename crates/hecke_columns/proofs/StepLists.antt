@@ -40,7 +40,7 @@ pub last_keeps : (P : Matrix → Type 0) (m : Matrix) (ss : List Step) → P m �
 last_keeps P m [] h all = h
 last_keeps P m (s ∷ ss) h all =
     last_keeps P (after m s) ss (All-head P (after m s) (matrices_from (after m s) ss) all)
-        (All-tail P (after m s) (matrices_from (after m s) ss) all)
+    (All-tail P (after m s) (matrices_from (after m s) ss) all)
 
 -- the lower row of a member
 pub record IsLowerRow (n : ℕ) (m : Matrix) : Type 0 where

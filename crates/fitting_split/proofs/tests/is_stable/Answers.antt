@@ -15,8 +15,8 @@ loop-i-preserved c =
     let part : List (Vector c.args.field) = dense_rows c.args.field c.args.part.now.rows in
     let inside : IsTrue c.in_ok-contains.field-0 = c.if-not-branch.false in
     let here : InSpan part (dense c.args.field (get_or c.rows-rows.result.now c.loop-i.i [])) =
-        subst (λ r. InSpan part (dense c.args.field r)) (c.as_slice.ensures ∙ c.index-rows-i.is ∙ get_or_default c.rows-rows.result.now c.loop-i.i c.index-rows-i.result [] c.loop-i-test.true)
-        (c.in_ok-contains.ensures.0 inside) in
+    subst (λ r. InSpan part (dense c.args.field r)) (c.as_slice.ensures ∙ c.index-rows-i.is ∙ get_or_default c.rows-rows.result.now c.loop-i.i c.index-rows-i.result [] c.loop-i-test.true)
+    (c.in_ok-contains.ensures.0 inside) in
     record {
       inside = λ j l. elim (ℕ_discrete j c.loop-i.i) [
         | yes same ↦ subst (λ n. InSpan part (dense c.args.field (get_or c.rows-rows.result.now n []))) (sym same) here
@@ -30,10 +30,10 @@ returns c = λ _.
     let image : List (Vector c.args.field) = dense_rows c.args.field c.in_ok-image.image.rows in
     let same = c.rows-rows.ensures.rows in
     let each : Each (InSpan part) image = Each-rows (InSpan part) image (λ j l.
-        let u : j < length c.in_ok-image.image.rows = omega (arith, length-dense_rows c.args.field c.in_ok-image.image.rows) in
-        subst (InSpan part) (sym (row-dense_rows c.args.field c.in_ok-image.image.rows j u))
-        (subst (λ rows. InSpan part (dense c.args.field (get_or rows j []))) same
-        (c.loop-i.invariant.inside j (omega (arith, u, ap length same, c.loop-i-test.false, c.loop-i.auto.i-end))))) in
+    let u : j < length c.in_ok-image.image.rows = omega (arith, length-dense_rows c.args.field c.in_ok-image.image.rows) in
+    subst (InSpan part) (sym (row-dense_rows c.args.field c.in_ok-image.image.rows j u))
+    (subst (λ rows. InSpan part (dense c.args.field (get_or rows j []))) same
+    (c.loop-i.invariant.inside j (omega (arith, u, ap length same, c.loop-i-test.false, c.loop-i.auto.i-end))))) in
     record {
       stays = λ v h. InSpan-trans part image (apply (dense_rows c.args.field c.args.mat.now) v) each
           (c.in_ok-image.ensures.all (apply (dense_rows c.args.field c.args.mat.now) v) (record { source = v; inside = h; is_value = refl }));

@@ -17,8 +17,12 @@ returns-then-not-branch-clause-read c =
 pub loop-token-preserved : goal.loop-token-preserved
 loop-token-preserved c = record {
   room = omega (arith, c.in-Some.ensures.shorter, c.loop-token.invariant.room);
-  few = omega (arith, c.loop-token.invariant.few, few_added c.next_item-kind.result.0 c.in-Some.token.now (given c.loop-token.fields)
-      (given c.add_token.new.fields) (c.in_ok-add_token.ensures.added c.if-not-branch.false));
+  few = omega (
+    arith,
+    c.loop-token.invariant.few,
+    few_added c.next_item-kind.result.0 c.in-Some.token.now (given c.loop-token.fields)
+        (given c.add_token.new.fields) (c.in_ok-add_token.ensures.added c.if-not-branch.false),
+  );
   ahead = goes_on c.loop-token.to_come.now c.next_item-kind.result.1.now (row c.args.word).repeated c.next_item-kind.result.0
       c.loop-token.place (given c.loop-token.fields) (given c.add_token.new.fields)
       c.in-Some.token.now (tokens c.in-Some.after.now) (tokens c.loop-token.rest.now) _ c.in-Some.ensures.token

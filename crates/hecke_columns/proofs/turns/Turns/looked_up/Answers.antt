@@ -29,8 +29,13 @@ index-requires c =
     let L = c.self.inside.limit in
     let q : c.args.q ≤ L = omega (arith, c.requires.limit, ap (λ v. v.limit) c.self.view_is) in
     let k : c.args.k < length (symbols N) = omega (arith, c.requires.place, ap (λ v. length (symbols v.level)) c.self.view_is) in
-    omega (arith, place_within c.args.q L (length (symbols N)) c.args.k q k, ap (λ x. c.args.q * x) i.1, ap (λ xs. length xs) i.3,
-        length-map-range_with_len (turned N) 0 ((L + 1) * length (symbols N)))
+    omega (
+      arith,
+      place_within c.args.q L (length (symbols N)) c.args.k q k,
+      ap (λ x. c.args.q * x) i.1,
+      ap (λ xs. length xs) i.3,
+      length-map-range_with_len (turned N) 0 ((L + 1) * length (symbols N)),
+    )
 
 pub returns-clause-number : goal.returns-clause-number
 returns-clause-number c =

@@ -40,7 +40,7 @@ returns c =
     let h = has_listing counts (length counts) in
     let vector : sparse p h.terms ≡ dense p counts = sparse-listing p counts (length counts) h.terms (omega arith) h.is in
     let below : HasPlacesBelow (length (symbols N)) h.terms = subst (λ n. HasPlacesBelow n h.terms) count
-            (HasPlacesBelow-listing counts (length counts) h.terms (omega arith) h.is) in
+    (HasPlacesBelow-listing counts (length counts) h.terms (omega arith) h.is) in
     subst (λ g. AreCoordinates g.level (dense g.characteristic counts) c.of.result) c.self.view_is
     (subst (AreCoordinates N (dense p counts)) (sym c.of.ensures)
     (subst (λ v. AreCoordinates N v values) vector
