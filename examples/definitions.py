@@ -56,6 +56,11 @@ def at_matrix(f, matrix, p):
     return total
 
 
+def cleared(row, lead, place, p):
+    """A row less the multiple of another, which is 1 at a place, that leaves 0 there."""
+    return [(x - row[place] * y) % p for x, y in zip(row, lead)]
+
+
 def echelon(rows, p):
     """The reduced echelon basis of the span of rows: in each row the first place other than 0 has 1, these places rise,
     and the other rows have 0 there."""
@@ -67,7 +72,7 @@ def echelon(rows, p):
         rows.remove(lead)
         scale = pow(lead[place], -1, p)
         lead = [x * scale % p for x in lead]
-        rows, basis = [[[(x - row[place] * y) % p for x, y in zip(row, lead)] for row in some] for some in (rows, basis)]
+        rows, basis = ([cleared(row, lead, place, p) for row in some] for some in (rows, basis))
         basis.append(lead)
     return basis
 
