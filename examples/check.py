@@ -60,7 +60,8 @@ def check(script, transcript):
     for place, words in enumerate(wanted[1:], 3):
         line = lines[min(place, len(lines)) - 1]
         index, session = (0, session + 1) if words == ["session"] else (index + 1, session)
-        if line[:2] != (["session", str(session)] if words == ["session"] else [str(index), "@0"]):
+        begin = ["@v" if word[0] == "@" and word[1:].isdigit() else word for word in line[:2]]
+        if begin != (["session", str(session)] if words == ["session"] else [str(index), "@v"]):
             raise ValueError("line %d: is no answer to line `%s` of the script" % (place, " ".join(words)))
         if words[0] == "certify" and line[2:3] != ["err"]:
             try:

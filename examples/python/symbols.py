@@ -6,6 +6,11 @@
     space.reduce([(1, 1, 4)])           # [0, 65520, 1]: coordinates of 1 times (1:4)
     space.hecke(2)                      # the matrix of T_2, a list of rows; column j is the image of free symbol j
     trace(space.hecke(2), space.p)      # 65520, which is -1
+    space.operator("T2")                # (3, 65520): the dimension and the trace alone
+    splitting = space.splitting().split("T2", [-3, 1]).split("star", [-1, 1])
+    splitting.dims                      # [1, 1, 1]: the Eisenstein part, the newform's plus and its minus space
+    splitting.parts()[1]                # [[0, 1, 0]], a basis of the second part by coordinates
+    space.on_part("T3", [[0, 1, 0]])    # [[65520]]: T_3 is -1 on it
 
 A term is (c, u, v) and stands for c times the symbol (u:v). Where the program refuses a command, `Refused` is raised
 with the words of the refusal. The program stands where `./symbol path` tells; the environment variable SYMBOL_PROGRAM
@@ -64,7 +69,9 @@ class Script:
 
 class Transcript:
     """A transcript, read: `level`, `p`, the number of `symbols`, `sessions` with the words of each reply from `ok` or
-    `err` on, `history` and the count of `columns`. ValueError where the text is no transcript."""
+    `err` on, `versions` with the version of each reply, `history` with the session, the number of the command, the
+    operator and the coefficients of each accepted split, and the count of `columns`. ValueError where the text is no
+    transcript."""
 
     def __init__(self, text):
         try:
@@ -79,21 +86,32 @@ class Transcript:
         if (space, symbols) != ("space", "symbols"):
             raise ValueError("no line of a space: " + " ".join(lines[1]))
         self.level, self.p, self.symbols = int(level), int(p), int(m)
-        self.sessions, place = [], 2
+        self.sessions, self.versions, place = [], [], 2
         while lines[place][0] == "session":
-            replies, place = [], place + 1
+            replies, versions, place = [], [], place + 1
             while lines[place][0].isdigit():
-                if int(lines[place][0]) != len(replies) + 1 or lines[place][2] not in ("ok", "err"):
+                number, version, word = lines[place][:3]
+                if int(number) != len(replies) + 1 or version[0] != "@" or word not in ("ok", "err"):
                     raise ValueError("no reply: " + " ".join(lines[place]))
                 replies.append(lines[place][2:])
+                versions.append(int(version[1:]))
                 place += 1
             self.sessions.append(replies)
+            self.versions.append(versions)
         word, count = lines[place]
-        self.history = lines[place + 1 : place + 1 + int(count)]
+        self.history = [entry(w, words) for w, words in enumerate(lines[place + 1 : place + 1 + int(count)], 1)]
         columns, demanded = lines[place + 1 + int(count)]
         if (word, columns) != ("history", "columns") or lines[place + 2 + int(count) :] != [["end"], [""]]:
             raise ValueError("no end of a transcript")
         self.columns = int(demanded)
+
+
+def entry(number, words):
+    """The session, command, operator and coefficients of a line of the history, which has a number."""
+    w, session, command, operator, f = words
+    if (w, session[0], command[0]) != (str(number), "s", "c"):
+        raise ValueError("no line of a history: " + " ".join(words))
+    return int(session[1:]), int(command[1:]), operator, [int(x) for x in f.split(",")]
 
 
 def program():
@@ -124,7 +142,9 @@ def pair(word):
 
 def answer(words):
     """What a reply says, from the words after `ok`: a pair for `point`, the pairs for `basis` and `cusps`, numbers for
-    `coords` and `boundary`, coordinates and a dictionary of relations for `certified`, two numbers for `chains`."""
+    `coords` and `boundary`, coordinates and a dictionary of relations for `certified`, two numbers for `chains`, the
+    dimension and the trace for `operator`, a number and dimensions for `version` and besides the operators for
+    `splitting`, a list of rows for `rows`."""
     kind, rest = words[0], words[1:]
     if kind == "point":
         return pair(rest[0])
@@ -139,11 +159,25 @@ def answer(words):
         return [int(w) for w in rest[:by]], dict(tuple(map(int, w.split(":"))) for w in rest[by + 1 :])
     if kind == "chains":
         return int(rest[0]), int(rest[2])
+    if kind == "operator":
+        return int(rest[0]), int(rest[2])
+    if kind == "version":
+        return int(rest[0]), [int(w) for w in rest[2:]]
+    if kind == "splitting":
+        ops = rest.index("ops")
+        return int(rest[0]), [int(w) for w in rest[2:ops]], rest[ops + 1 :]
+    if kind == "rows":
+        return [[int(w) for w in row.split()] for row in " ".join(rest).split(";")]
     raise ValueError("no reply that is known: " + " ".join(words))
 
 
 def words_of(terms):
     return ["%d:%d:%d" % term for term in terms]
+
+
+def word_of(f):
+    """A polynomial as a word: its coefficients from the constant up."""
+    return ",".join(str(c) for c in f)
 
 
 class Space:
@@ -201,6 +235,42 @@ class Space:
         """The number of chains, and of matrices, of Merel's set of n."""
         return self.one("chains", n)
 
+    def operator(self, name):
+        """The dimension, and the trace of an operator, which is named "star" or such as "T2"."""
+        return self.one("operator", name)
+
+    def apply(self, name, coords):
+        """The image under an operator of what has these coordinates, by coordinates."""
+        return self.one("apply", name, *coords)
+
+    def poly(self, name, f, coords):
+        """The image under f(operator), f being a list of coefficients from the constant up."""
+        return self.one("poly", name, word_of(f), *coords)
+
+    def splitting(self):
+        """The splitting that has the whole space as its one part; its method `split` goes on from there."""
+        return Splitting(self)
+
+    def images(self, name, vectors):
+        return self.ask([" ".join(["apply", name] + [str(x) for x in vector]) for vector in vectors])
+
+    def matrix(self, name):
+        """The matrix of any operator, a list of rows: column j is the image of free symbol j. For T_n the program looks
+        at every relation first, which takes a column for each symbol where `hecke` takes one for each free symbol."""
+        size = range(self.dimension)
+        return transposed(self.images(name, [[int(i == j) for j in size] for i in size]))
+
+    def on_part(self, name, part):
+        """The matrix of an operator on a part that it keeps, over the rows of the part's reduced echelon basis, a list
+        of rows: column j is the image of row j. ValueError where the operator does not keep the part."""
+        leads = [row.index(1) for row in part]
+        columns = []
+        for image in self.images(name, part):
+            columns.append([image[lead] for lead in leads])
+            if product([columns[-1]], part, self.p) != [image]:
+                raise ValueError("%s does not keep the part" % name)
+        return transposed(columns)
+
     def rows(self, command):
         """The answers for the free symbols in turn, such as the rows of boundaries for "boundary"."""
         return self.ask(["%s 1:%d:%d" % (command, u, v) for u, v in self.free])
@@ -215,6 +285,24 @@ class Space:
     def boundaries(self):
         """A row for each free symbol, its boundary, with a number for each cusp."""
         return self.rows("boundary")
+
+
+class Splitting:
+    """A splitting of a space after some splits: its number of them, `version`, the `dims` of its parts in order, and
+    the `operators` that it lists. It does not change; `split` gives the next one, and the program is asked again."""
+
+    def __init__(self, space, splits=()):
+        self.space, self.splits = space, list(splits)
+        self.version, self.dims, self.operators = space.ask(self.splits + ["show"])[-1]
+
+    def split(self, name, f):
+        """Divides each part in two by f(operator), what some power sends to 0 first; parts of 0 alone are dropped."""
+        return Splitting(self.space, self.splits + ["split %s %s" % (name, word_of(f))])
+
+    def parts(self):
+        """The reduced echelon basis of each part, a list of rows of coordinates."""
+        asked = ["part %d" % (i + 1) for i in range(len(self.dims))]
+        return self.space.ask(self.splits + asked)[len(self.splits) :]
 
 
 def transposed(rows):

@@ -21,6 +21,18 @@ def divisors(n):
     return [d for d in range(1, n + 1) if n % d == 0]
 
 
+def rank(rows, p):
+    """The number of independent rows modulo p."""
+    rows, found = [list(row) for row in rows], 0
+    while rows:
+        lead = rows.pop()
+        place = next((j for j, x in enumerate(lead) if x % p), None)
+        if place is not None:
+            found, scale = found + 1, pow(lead[place], -1, p)
+            rows = [[(x - row[place] * scale * y) % p for x, y in zip(row, lead)] for row in rows]
+    return found
+
+
 def added(matrix, scalar, p):
     return [[(x + (i == j) * scalar) % p for j, x in enumerate(row)] for i, row in enumerate(matrix)]
 
@@ -43,6 +55,35 @@ class Spaces(unittest.TestCase):
         space = Space(15)
         self.assertEqual(product(space.hecke(2), space.hecke(7), space.p), space.hecke(14))
         self.assertEqual(product(space.hecke(2), space.hecke(2), space.p), added(space.hecke(4), 2, space.p))
+
+    def test_traces_and_matrices(self):
+        for level, p in ((11, 65521), (15, 7), (36, 2), (37, 101)):
+            space = Space(level, p)
+            for n in (1, 7, 11 if level != 11 else 13, 35 if level != 15 and level != 11 else 1):
+                if gcd(n, level) == 1:
+                    matrix = space.hecke(n)
+                    self.assertEqual(space.matrix("T%d" % n), matrix)
+                    self.assertEqual(space.operator("T%d" % n), (space.dimension, trace(matrix, p)))
+            self.assertEqual(space.matrix("star"), space.star_matrix())
+            self.assertEqual(space.operator("star")[1], trace(space.star_matrix(), p))
+        self.assertEqual(Space(1).operator("T2"), (0, 0))
+        self.assertEqual(Space(1).apply("T2", []), [])
+
+    def test_polynomials(self):
+        space, c = Space(35, 10007), [3, 1, 4, 1, 5, 9, 2, 6, 5]
+        self.assertEqual(space.dimension, len(c))
+        # T_2 T_2 = T_4 + 2 at a level that is odd; 0 and 1 are polynomials too, and so is x.
+        self.assertEqual(space.poly("T2", [-2, 0, 1], c), space.apply("T4", c))
+        self.assertEqual(space.poly("T2", [0], c), [0] * 9)
+        self.assertEqual(space.poly("T2", [1], c), c)
+        self.assertEqual(space.poly("T2", [0, 1], c), space.apply("T2", c))
+        self.assertEqual(space.poly("star", [-1, 0, 1], c), [0] * 9)
+        # By the matrix, x^3 + 5x + 7 with the powers that a user would form.
+        two = space.hecke(2)
+        cube = product(two, product(two, two, space.p), space.p)
+        wanted = [(x + 5 * y + 7 * z) % space.p for (x,), (y,), z in zip(
+            product(cube, [[z] for z in c], space.p), product(two, [[z] for z in c], space.p), c)]
+        self.assertEqual(space.poly("T2", [7, 5, 0, 1], c), wanted)
 
     def test_dimensions(self):
         # 2 g + c - 1, g the genus of X_0(N) and c the number of cusps (Diamond, Shurman, 3.1).
@@ -80,10 +121,88 @@ class Spaces(unittest.TestCase):
         self.assertEqual(space.image(2, [(1, 0, 1)]), [3, 1, 0])
 
 
+class Splittings(unittest.TestCase):
+    def values(self, space, part, numbers):
+        """The one eigenvalue of each T_q on a part where it is a multiple of the identity, as an integer."""
+        found = []
+        for q in numbers:
+            matrix = space.on_part("T%d" % q, part)
+            self.assertEqual(matrix, added([[0] * len(part)] * len(part), matrix[0][0], space.p))
+            found.append(signed(matrix[0][0], space.p))
+        return found
+
+    def test_the_newforms_of_level_37(self):
+        # Coefficients at 2, 3, 5, 7, 11, 13 (LMFDB, 37.2.a.a and 37.2.a.b).
+        space = Space(37)
+        splitting = space.splitting().split("T2", [2, 1]).split("T2", [0, 1])
+        self.assertEqual((splitting.version, splitting.dims, splitting.operators), (2, [2, 2, 1], ["T2"]))
+        first, second, eisenstein = splitting.parts()
+        self.assertEqual(self.values(space, first, (2, 3, 5, 7, 11, 13)), [-2, -3, -2, -1, -5, -2])
+        self.assertEqual(self.values(space, second, (2, 3, 5, 7, 11, 13)), [0, 1, 0, -1, 3, -4])
+        self.assertEqual(self.values(space, eisenstein, (2, 3, 5, 7, 11, 13)), [3, 4, 6, 8, 12, 14])
+        # Star has a line of each sign on a newform, and the boundary is 0 there.
+        last = splitting.split("star", [-1, 1])
+        self.assertEqual((last.dims, last.operators), ([1, 1, 1, 1, 1], ["T2", "star"]))
+        self.assertEqual([space.on_part("star", part)[0][0] for part in last.parts()], [1, space.p - 1] * 2 + [1])
+        self.assertEqual(product(first + second, space.boundaries(), space.p), [[0, 0]] * 4)
+
+    def test_old_and_new_at_33(self):
+        # Two copies of 11.2.a.a, and 33.2.a.a, at 2, 5, 7, 13 (LMFDB); four cusps.
+        space = Space(33)
+        splitting = space.splitting().split("T2", [-3, 1]).split("T2", [2, 1])
+        eisenstein, old, new = splitting.parts()
+        self.assertEqual(splitting.dims, [3, 4, 2])
+        self.assertEqual(self.values(space, old, (2, 5, 7, 13)), [-2, 1, -2, 4])
+        self.assertEqual(self.values(space, new, (2, 5, 7, 13)), [1, -2, 4, -2])
+        self.assertEqual(self.values(space, eisenstein, (2, 5, 7, 13)), [3, 6, 8, 14])
+
+    def test_the_newforms_of_level_389(self):
+        # The characteristic polynomials of T_2 on the first four newforms (LMFDB, 389.2.a.a to d); e has degree 20.
+        splitting = Space(389).splitting().split("T2", [-3, 1])
+        for f in ([2, 1], [-2, 0, 1], [-2, -4, 0, 1], [-1, 4, 2, -8, -2, 3, 1]):
+            splitting = splitting.split("T2", f)
+        self.assertEqual(splitting.dims, [1, 2, 4, 6, 12, 40])
+        self.assertEqual(splitting.split("star", [-1, 1]).dims, [1, 1, 1, 2, 2, 3, 3, 6, 6, 20, 20])
+
+    def test_a_congruence(self):
+        # 11.2.a.a is congruent to the Eisenstein series modulo 5, and to it alone (Mazur).
+        self.assertEqual(Space(11, 5).splitting().split("T2", [-3, 1]).split("T7", [2, 1]).dims, [3])
+        self.assertEqual(Space(11, 7).splitting().split("T2", [-3, 1]).dims, [1, 2])
+
+    def test_parts_make_up_the_space(self):
+        for level, p in ((23, 101), (36, 3), (49, 2), (60, 5)):
+            space = Space(level, p)
+            splitting = space.splitting()
+            self.assertEqual((splitting.version, splitting.dims, splitting.operators), (0, [space.dimension], []))
+            for name, f in (("T7", [-8, 1]), ("star", [-1, 1]), ("T11", [0, 1]), ("T13", [1, 1, 1])):
+                if gcd(int(name[1:]) if name != "star" else 1, level) == 1:
+                    splitting = splitting.split(name, f)
+            parts = splitting.parts()
+            self.assertEqual([len(part) for part in parts], splitting.dims)
+            self.assertEqual(sum(splitting.dims), space.dimension)
+            # The rows of all parts span the space, and each part is kept by what is listed, and by another T_n.
+            self.assertEqual(rank([row for part in parts for row in part], p), space.dimension)
+            for part in parts:
+                for name in splitting.operators + ["T17"]:
+                    space.on_part(name, part)
+        whole = [[int(i == j) for j in range(3)] for i in range(3)]
+        self.assertEqual(Space(11).splitting().parts(), [whole])
+        self.assertEqual((Space(1).splitting().dims, Space(1).splitting().split("T2", [1]).version), ([], 1))
+        with self.assertRaises(ValueError):
+            Space(11).on_part("T2", [[1, 0, 0]])
+
+
 class Refusals(unittest.TestCase):
     def test_refusals(self):
         space = Space(11)
         for words, wanted in (
+            (("operator", "T22"), ["not_coprime", "11"]),
+            (("operator", "T0"), ["limit", "n"]),
+            (("apply", "T2", 1, 2), ["length", "3", "2"]),
+            (("poly", "T2", ",".join("1" * 18), 1, 2, 3), ["limit", "degree"]),
+            (("split", "T2", 5000000000), ["limit", "number"]),
+            (("part", 2), ["no_part", "1"]),
+            (("part", 0), ["no_part", "1"]),
             (("normal", 0, 0), ["not_symbol", "1"]),
             (("image", 22, "1:0:1"), ["not_coprime", "11"]),
             (("image", 201, "1:0:1"), ["limit", "n"]),
@@ -108,6 +227,15 @@ class Refusals(unittest.TestCase):
             run("#" * 1048577)
         self.assertEqual((caught.exception.status, caught.exception.line), (6, "input too long"))
 
+    def test_two_hundred_versions(self):
+        splitting = Space(11).splitting()
+        splitting.splits = ["split star 1"] * 199
+        last = splitting.split("star", [1])
+        self.assertEqual((last.version, last.dims, last.operators), (200, [3], ["star"]))
+        with self.assertRaises(Refused) as caught:
+            last.split("T2", [1])
+        self.assertEqual(caught.exception.words, ["versions_full"])
+
     def test_many_commands(self):
         # More than a script may have: two runs.
         space = Space(11)
@@ -118,7 +246,8 @@ class Transcripts(unittest.TestCase):
     def test_examples(self):
         for path in sorted(examples.glob("*/transcript")):
             transcript = Transcript(path.read_text())
-            self.assertEqual(transcript.history, [])
+            splits = [words for replies in transcript.sessions for words in replies if words[:2] == ["ok", "version"]]
+            self.assertEqual([int(words[2]) for words in splits], list(range(1, len(transcript.history) + 1)))
             commands = [line for line in (path.parent / "script").read_text().split("\n") if line and line[0] != "#"]
             replies = sum(len(s) for s in transcript.sessions) + len(transcript.sessions) + 1
             self.assertEqual(replies, len(commands))
@@ -126,7 +255,13 @@ class Transcripts(unittest.TestCase):
     def test_sessions(self):
         transcript = run(Script(11, 101).session().command("basis").session().command("image", 2, "1:0:1"))
         self.assertEqual([len(s) for s in transcript.sessions], [1, 1])
-        self.assertEqual((transcript.symbols, transcript.columns), (12, 1))
+        self.assertEqual((transcript.symbols, transcript.columns, transcript.history), (12, 1, []))
+
+    def test_versions(self):
+        script = Script(11, 101).session().command("split", "T2", "-3,1").command("show")
+        transcript = run(script.session().command("split", "star", "-1,0,102").command("split", "T22", 1).command("basis"))
+        self.assertEqual(transcript.versions, [[0, 1], [1, 2, 2]])
+        self.assertEqual(transcript.history, [(1, 1, "T2", [98, 1]), (2, 1, "star", [100, 0, 1])])
 
     def test_broken_transcripts(self):
         text = (examples / "level-11" / "transcript").read_text()
@@ -181,7 +316,8 @@ class Certificates(unittest.TestCase):
 
     def test_a_run_of_this_day(self):
         for level, p in ((1, 101), (12, 3), (30, 65521), (36, 2)):
-            script = "space %d %d\nsession\nbasis\ncertify 1:1:0 5:2:1 -7:3:1\ncertify\ncertify 1:1:%d\n" % (level, p, p)
+            script = "space %d %d\nsession\nbasis\ncertify 1:1:0 5:2:1 -7:3:1\nsplit star -1,1\ncertify\n" % (level, p)
+            script += "session\ncertify 1:1:%d\n" % p
             done = subprocess.run([program(), "solo"], input=script, capture_output=True, text=True)
             self.assertEqual(check(script, done.stdout), 3)
 
