@@ -1,5 +1,7 @@
 pub mod Coprime
 pub mod Hits
+pub mod HeldLemmas
+pub mod GatheringLemmas
 pub mod Sums
 pub mod Columns
 pub mod Permuted
