@@ -10,6 +10,11 @@ pub mod AnswerLemmas
 pub mod DemandLemmas
 pub mod HostLemmas
 pub mod ImageLemmas
+pub mod ChainCounts
+pub mod SourceLemmas
 pub mod PreparingLemmas
 pub mod TableLemmas
 pub mod TermLemmas
+pub mod WholeSpaces
+pub mod HistoryVersions
+pub mod OneSession

@@ -1,5 +1,5 @@
 -- What operators tell: images, values and splits.
-use Rattle.std.proofs.Common.{◌≡◌, ◌<◌, [], ℕ, ℤ, List, length, map, Result, Ok, Err, IsErrOf, refl, sym, ◌∙◌, ap, subst, inl, inr}
+use Rattle.std.proofs.Common.{◌≡◌, ◌<◌, [], ℕ, ℤ, List, length, map, Result, Err, IsErrOf, refl, sym, ◌∙◌, ap, subst, inl, inr}
 use Rattle.linear_algebra.specs.Dense.{dense, dense_rows}
 use Rattle.linear_algebra.specs.Integers.{residue_of}
 use Rattle.linear_algebra.specs.Residue.{residue}

@@ -78,7 +78,7 @@ lines_demand_all g history few n (l ∷ lines) (r ∷ told) h q a = elim (Has-fr
       (lines_demand_all g history few (n + 1) lines told h.1 q later)
 ]
 
-sessions_demand_all : (g : Ground) (history : List SplitEntry) → length history < MAX_VERSIONS → (sessions : List (List NumberedLine))
+pub sessions_demand_all : (g : Ground) (history : List SplitEntry) → length history < MAX_VERSIONS → (sessions : List (List NumberedLine))
     (all : List (List ReplyLine))
     → AllZip (AreReplyLines g history) sessions all → HasAll (told_demands g sessions all) (script_demand g sessions)
 sessions_demand_all g history few [] all h q a = absurd (Has-nil q a)
@@ -129,7 +129,7 @@ lines_once {g} {session} {new = new} listed (AnswersLines.next {line = line} {li
     (λ i. same i ∷ others i, last)
 
 -- and sessions
-sessions_once : {g : Ground} {session : ℕ} {old mid new : List SplitEntry} {sessions : List (List NumberedLine)} {all again : List (List ReplyLine)}
+pub sessions_once : {g : Ground} {session : ℕ} {old mid new : List SplitEntry} {sessions : List (List NumberedLine)} {all again : List (List ReplyLine)}
     → IsListed g.characteristic → AnswersSessions g session old sessions all mid → AnswersSessions g session old sessions again new
     → All (All IsAnswered) all → All (All IsAnswered) again → (all ≡ again) × (mid ≡ new)
 sessions_once listed AnswersSessions.done AnswersSessions.done some other = (refl, refl)

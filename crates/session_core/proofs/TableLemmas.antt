@@ -6,11 +6,10 @@ use Rattle.std.proofs.lemmas.Bool.{eqb-true, true≢false}
 use Rattle.std.proofs.lemmas.List.Elements.{All-head, All-tail}
 use Rattle.quotient_coords.specs.Quotient.{Ground}
 use Rattle.heilbronn_sets.specs.Merel.{merel_matrices}
-use Rattle.heilbronn_sets.specs.Sets.{Matrices}
 use Rattle.hecke_columns.specs.Hecke.{HeckeColumn, IsColumn}
 use Rattle.hecke_columns.proofs.Columns.{IsColumn-same}
 use Rattle.session_core.specs.Demands.{is_pair, Has, Adds}
-use Rattle.session_core.specs.ColumnTable.{merel, AreMerelSets, IsColumnAt, AreColumns}
+use Rattle.session_core.specs.ColumnTable.{IsColumnAt, AreColumns}
 use Rattle.session_core.proofs.PairLemmas.{is_pair-eq, Adds-push}
 
 -- the value that a look-up finds has the property, at a key that passes
@@ -23,12 +22,6 @@ All-lookup {K} {X} P test (e ∷ es) v found all = by (test e.0) refl found (λ 
         → (lookup test es ≡ Some v → (k : K) × (test k ≡ true) × P (k, v)) → (k : K) × (test k ≡ true) × P (k, v)
     by true passes same later = (e.0, passes, subst (λ x. P (e.0, x)) (let inner : e.1 ≡ v = cc in inner) (All-head P e es all))
     by false fails same later = later same
-
--- a set that is found is Merel's
-pub merel_found : (n : ℕ) (sets : List (ℕ × Matrices)) (set : Matrices) → lookup (nat_eq n) sets ≡ Some set → AreMerelSets sets → set ≡ merel n
-merel_found n sets set found all =
-    let at = All-lookup (λ (e : ℕ × Matrices). e.1 ≡ merel e.0) (nat_eq n) sets set found all in
-    at.2 ∙ ap merel (sym (eqb-true n at.0 at.1))
 
 -- a column that is found is that of its pair
 pub column_found : (g : Ground) (n symbol : ℕ) (columns : List ((ℕ × ℕ) × HeckeColumn)) (column : HeckeColumn)

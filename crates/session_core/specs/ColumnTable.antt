@@ -2,7 +2,6 @@
 --   Gathered               a ground, and the pairs (n, symbol) of columns that were gathered
 --   merel n                Merel's set of determinant n
 --   determinant_of_demand d    the n of a demand, and 1 where it is nothing
---   AreMerelSets sets      each set stands at its determinant, and is Merel's set of it
 --   IsColumnAt g n k c     the column c is that of the pair (n, k), at the ground
 --   AreColumns g columns   each entry is a column that stands at its pair
 use Rattle.std.specs.Prelude.{◌≡◌, ℕ, List, All}
@@ -24,9 +23,6 @@ abbrev pub determinant_of_demand : Demand → ℕ
 determinant_of_demand demands.Nothing = 1
 determinant_of_demand (demands.Some n given) = n
 determinant_of_demand (demands.All n) = n
-
-abbrev pub AreMerelSets : List (ℕ × Matrices) → Type 0
-AreMerelSets sets = All (λ e. e.1 ≡ merel e.0) sets
 
 pub record IsColumnAt (g : Ground) (n symbol : ℕ) (column : HeckeColumn) : Type 0 where
   pub modulus : column.modulus ≡ g.level

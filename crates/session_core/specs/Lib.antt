@@ -6,6 +6,8 @@ pub mod Operators
 pub mod Prepared
 pub mod Replies
 pub mod Transcripts
+pub mod Histories
 pub mod SoloRuns
+pub mod OneSession
 pub mod ColumnTable
 pub mod Hosts

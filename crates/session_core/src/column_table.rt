@@ -3,8 +3,9 @@ ghost use Rattle.std.specs.List.{IsDistinct, range_with_len};
 ghost use Rattle.indexmap.specs.IndexMap.{get, keys};
 ghost use Rattle.p1_normal.specs.Points.{symbols};
 ghost use Rattle.p1_normal.specs.Units.{gcd};
+ghost use Rattle.hecke_columns.specs.Walks.{IsWalk, walk_number};
 ghost use Rattle.quotient_coords.specs.Quotient.{Ground};
-ghost use Rattle.session_core.specs.ColumnTable.{AreColumns, AreMerelSets, IsColumnAt, determinant_of_demand, merel};
+ghost use Rattle.session_core.specs.ColumnTable.{AreColumns, IsColumnAt, determinant_of_demand, merel};
 ghost use Rattle.session_core.specs.Demands.{
   Adds,
   Has,
@@ -18,112 +19,75 @@ ghost use Rattle.session_core.specs.Demands.{
 
 use crate::demand::Demand;
 use field_table::{Field, OutOfMemory, axpy};
-use hecke_columns::{Column, ColumnSource};
-use heilbronn_sets::{MatrixSet, SetFault, merel_set};
+use hecke_columns::{Column, ColumnSource, Walk, Walks};
 use indexmap::IndexMap;
-use p1_normal::MAX_DET;
 use quotient_coords::Space;
 use std::alloc::Global;
 use std::marker::Model;
 
-type Sets = IndexMap<u32, MatrixSet>;
-
 type Columns = IndexMap<(u32, u32), Column>;
 
-/// The columns that a host has computed, each once, in the order in which they came, and the sets of matrices
-/// that they took. Contracts see the ground (the level and the characteristic), and the pairs (n, symbol) of the columns.
+/// The columns that a host has computed, each once, in the order in which they came, and what they are made by.
+/// Contracts see the ground (the level and the characteristic), and the pairs (n, symbol) of the columns.
 #[derive(Drop)]
 pub struct ColumnTable {
     modulus: u32,
     field: Field,
-    sets: Sets,
+    walks: Walks,
     columns: Columns,
 }
 
 impl Model for ColumnTable {
+    ghost use Rattle.std.specs.Prelude.{◌≡◌};
     ghost use Rattle.indexmap.specs.IndexMap.{keys};
     ghost use Rattle.quotient_coords.specs.Quotient.{ground_of};
-    ghost use Rattle.session_core.specs.ColumnTable.{Gathered, AreColumns, AreMerelSets};
+    ghost use Rattle.session_core.specs.ColumnTable.{Gathered, AreColumns};
 
     ghost Value = { Gathered };
 
     ghost view = { λ t. record { ground = ground_of t.modulus t.field; pairs = keys t.columns } };
 
-    ghost invariant = { λ t. AreMerelSets t.sets.entries
-        × AreColumns (ground_of t.modulus t.field) t.columns.entries };
+    ghost invariant = { λ t. (t.walks ≡ t.modulus) × AreColumns (ground_of t.modulus t.field) t.columns.entries };
 }
 
-// Takes Merel's set of determinant n into the table, if it is not there.
-fn hold_set(alloc: Global, sets: &mut Sets, n: u32) -> Result<(), OutOfMemory>
-    requires limits { (0 < n) × (n ≤ MAX_DET) }
-    requires merel { AreMerelSets sets.old.entries }
-    ensures merel { AreMerelSets sets.new.entries }
-    ensures held { OnOk result (IsSome (get nat_eq sets.new n)) }
-{
-    if !sets.contains_key(&n) {
-        let set = match merel_set(alloc, n) {
-            Ok(set) => set,
-            Err(SetFault::OutOfMemory) => return Err(OutOfMemory),
-            Err(_) => unreachable!(),
-        };
-        sets.insert(n, set)?;
-    }
-    Ok(())
-}
-
-// Merel's set of determinant n, which is there.
-fn set_at(sets: &Sets, n: u32) -> &MatrixSet
-    requires held { IsSome (get nat_eq sets.now n) }
-    requires merel { AreMerelSets sets.now.entries }
-    ensures { result.now ≡ merel n }
-{
-    match sets.get(&n) {
-        Some(set) => set,
-        None => unreachable!(),
-    }
-}
-
-// Computes the column of symbol k over Merel's set of determinant n, which is not in the table, and takes it in.
+// Computes the column of symbol k along the walk, which is not in the table, and takes it in.
 fn add_column(
     alloc: Global,
-    sets: &mut Sets,
+    walk: &Walk<'_>,
     columns: &mut Columns,
     space: &Space,
     n: u32,
     k: u32,
 ) -> Result<(), OutOfMemory>
-    requires limits { (0 < n) × (n ≤ MAX_DET) }
+    requires walk { IsWalk space.now.level walk.now }
+    requires number { walk_number walk.now ≡ n }
     requires coprime { gcd n space.now.level ≡ 1 }
     requires place { k < length (symbols space.now.level) }
-    requires merel { AreMerelSets sets.old.entries }
     requires columns { AreColumns space.now columns.old.entries }
     requires absent { get is_pair columns.old (n, k) ≡ None }
-    ensures merel { AreMerelSets sets.new.entries }
     ensures columns { AreColumns space.now columns.new.entries }
     ensures adds { Adds ((n, k) ∷ []) (keys columns.old) (keys columns.new) }
     ensures held { OnOk result (Has (keys columns.new) (n, k)) }
 {
-    hold_set(alloc, sets, n)?;
-    let column = Column::compute(alloc, space, set_at(sets, n), k)?;
+    let column = walk.column(alloc, space, k)?;
     columns.insert((n, k), column)?;
     Ok(())
 }
 
-// Takes the column of symbol k over Merel's set of determinant n into the table, if it is not there.
+// Takes the column of symbol k along the walk into the table, if it is not there.
 fn hold_column(
     alloc: Global,
-    sets: &mut Sets,
+    walk: &Walk<'_>,
     columns: &mut Columns,
     space: &Space,
     n: u32,
     k: u32,
 ) -> Result<(), OutOfMemory>
-    requires limits { (0 < n) × (n ≤ MAX_DET) }
+    requires walk { IsWalk space.now.level walk.now }
+    requires number { walk_number walk.now ≡ n }
     requires coprime { gcd n space.now.level ≡ 1 }
     requires place { k < length (symbols space.now.level) }
-    requires merel { AreMerelSets sets.old.entries }
     requires columns { AreColumns space.now columns.old.entries }
-    ensures merel { AreMerelSets sets.new.entries }
     ensures columns { AreColumns space.now columns.new.entries }
     ensures adds { Adds ((n, k) ∷ []) (keys columns.old) (keys columns.new) }
     ensures held { OnOk result (Has (keys columns.new) (n, k)) }
@@ -131,47 +95,45 @@ fn hold_column(
     if columns.contains_key(&(n, k)) {
         return Ok(());
     }
-    add_column(alloc, sets, columns, space, n, k)
+    add_column(alloc, walk, columns, space, n, k)
 }
 
-// Takes the columns of these symbols into the table.
+// Takes the columns of these symbols along the walk into the table.
 fn hold_columns(
     alloc: Global,
-    sets: &mut Sets,
+    walk: &Walk<'_>,
     columns: &mut Columns,
     space: &Space,
     n: u32,
     given: &[u32],
 ) -> Result<(), OutOfMemory>
-    requires limits { (0 < n) × (n ≤ MAX_DET) }
+    requires walk { IsWalk space.now.level walk.now }
+    requires number { walk_number walk.now ≡ n }
     requires coprime { gcd n space.now.level ≡ 1 }
     requires places { All (λ k. k < length (symbols space.now.level)) given.now }
-    requires merel { AreMerelSets sets.old.entries }
     requires columns { AreColumns space.now columns.old.entries }
-    ensures merel { AreMerelSets sets.new.entries }
     ensures columns { AreColumns space.now columns.new.entries }
     ensures adds { Adds (symbol_pairs n given.now) (keys columns.old) (keys columns.new) }
     ensures held { OnOk result (HasAll (keys columns.new) (symbol_pairs n given.now)) }
 {
     for k in given {
-        hold_column(alloc, sets, columns, space, n, *k)?;
+        hold_column(alloc, walk, columns, space, n, *k)?;
     }
     Ok(())
 }
 
-// Takes the columns of all symbols into the table.
+// Takes the columns of all symbols along the walk into the table.
 fn hold_all_columns(
     alloc: Global,
-    sets: &mut Sets,
+    walk: &Walk<'_>,
     columns: &mut Columns,
     space: &Space,
     n: u32,
 ) -> Result<(), OutOfMemory>
-    requires limits { (0 < n) × (n ≤ MAX_DET) }
+    requires walk { IsWalk space.now.level walk.now }
+    requires number { walk_number walk.now ≡ n }
     requires coprime { gcd n space.now.level ≡ 1 }
-    requires merel { AreMerelSets sets.old.entries }
     requires columns { AreColumns space.now columns.old.entries }
-    ensures merel { AreMerelSets sets.new.entries }
     ensures columns { AreColumns space.now columns.new.entries }
     ensures adds { Adds (symbol_pairs n (range_with_len 0 (length (symbols space.now.level))))
         (keys columns.old) (keys columns.new) }
@@ -179,9 +141,47 @@ fn hold_all_columns(
         (length (symbols space.now.level))))) }
 {
     for k in 0..space.level().count() {
-        hold_column(alloc, sets, columns, space, n, k)?;
+        hold_column(alloc, walk, columns, space, n, k)?;
     }
     Ok(())
+}
+
+// Takes the columns of a demand into the table, along a walk that is readied for as many.
+fn hold_demand(
+    alloc: Global,
+    walks: &mut Walks,
+    columns: &mut Columns,
+    space: &Space,
+    demand: &Demand,
+) -> Result<(), OutOfMemory>
+    requires level { walks.old ≡ space.now.level }
+    requires demand { HasColumns space.now.level demand.now }
+    requires columns { AreColumns space.now columns.old.entries }
+    ensures level { walks.new ≡ walks.old }
+    ensures columns { AreColumns space.now columns.new.entries }
+    ensures adds { Adds (demand_pairs space.now.level demand.now) (keys columns.old) (keys columns.new) }
+    ensures held { OnOk result (HasAll (keys columns.new)
+        (demand_pairs space.now.level demand.now)) }
+{
+    match demand {
+        Demand::Nothing => Ok(()),
+        Demand::Some { n, symbols } => {
+            let count = symbols.as_slice().len().min(u32::MAX as usize) as u32;
+            walks.hold(alloc, space.level(), *n, count)?;
+            hold_columns(
+                alloc,
+                &walks.walk(*n),
+                columns,
+                space,
+                *n,
+                symbols.as_slice(),
+            )
+        }
+        Demand::All { n } => {
+            walks.hold(alloc, space.level(), *n, space.level().count())?;
+            hold_all_columns(alloc, &walks.walk(*n), columns, space, *n)
+        }
+    }
 }
 
 // The column of a symbol, which is there.
@@ -215,7 +215,7 @@ impl ColumnTable {
         ColumnTable {
             modulus: space.level().modulus(),
             field: space.field(),
-            sets: IndexMap::new(alloc),
+            walks: Walks::new(alloc, space.level()),
             columns: IndexMap::new(alloc),
         }
     }
@@ -228,8 +228,8 @@ impl ColumnTable {
         self.columns.len() as u64
     }
 
-    /// Computes the columns of a demand that are not there, and keeps them. A column that is there costs one look-up;
-    /// the set of matrices is fetched only where one is not.
+    /// Computes the columns of a demand that are not there, and keeps them. A column that is there costs one look-up.
+    /// For a demand of many columns it first keeps what makes them cheaper, and for all later demands of the same n.
     pub fn gather(
         &mut self,
         alloc: Global,
@@ -243,20 +243,7 @@ impl ColumnTable {
         ensures held { OnOk result (HasAll self.new.pairs
             (demand_pairs space.now.level demand.now)) }
     {
-        match demand {
-            Demand::Nothing => Ok(()),
-            Demand::Some { n, symbols } => hold_columns(
-                alloc,
-                &mut self.sets,
-                &mut self.columns,
-                space,
-                *n,
-                symbols.as_slice(),
-            ),
-            Demand::All { n } => {
-                hold_all_columns(alloc, &mut self.sets, &mut self.columns, space, *n)
-            }
-        }
+        hold_demand(alloc, &mut self.walks, &mut self.columns, space, demand)
     }
 
     // The column of a symbol, which is there.

@@ -17,7 +17,7 @@ use std::alloc::Global;
 
 /// Finishes a command that was prepared for the space at the version that is lent, from a source of the columns that it
 /// demands; any source serves where it demands none. Want of memory is a reply. Costs for `image` a pass over d numbers
-/// for each term, for `reduce`, `certify` and `star` what the space's own calls cost, for `chains` the making of a set, for
+/// for each term, for `reduce`, `certify` and `star` what the space's own calls cost, for `chains` a walk along the chains, for
 /// `boundary` and `cusps` the making of the cusps, which a host keeps, for `operator`, `apply`, `poly` and `split` the test
 /// of the operator: a pass or two over d numbers for each kept relation, and a pass for each symbol; and for `split` what
 /// `Splitting::refine` costs.

@@ -1,3 +1,5 @@
+ghost use Rattle.session_core.specs.Histories.{LegalHistoriesAreVersions};
+ghost use Rattle.session_core.specs.OneSession.{OneSessionRunsAreSolo, OneSessionRunsAreUnique};
 ghost use Rattle.session_core.specs.Operators.{ImagesAreSums};
 ghost use Rattle.session_core.specs.SoloRuns.{SoloColumnsAreDemanded, SoloRunsAreLegal, SoloRunsAreUnique};
 ghost use Rattle.session_core.specs.Transcripts.{ColumnsAreDemanded};
@@ -25,4 +27,17 @@ pub fn columns_are_demanded()
 /// that has the given coordinates. So congruent combinations have congruent images.
 pub fn images_are_sums()
     ensures law { ImagesAreSums }
+{}
+
+/// In a legal transcript the first v entries of the history have a version, for each v that there is. It is a splitting of
+/// the space, and the version of one entry more refines it. So it is with every legal run, of one thread or of many.
+pub fn legal_histories_are_versions()
+    ensures law { LegalHistoriesAreVersions }
+{}
+
+/// A legal run of a script of one session is a run of one thread: each version is the number of accepted splits in the
+/// lines before. So the script has one legal run, where no reply is want of memory and the history is not full.
+pub fn one_session_runs_are_solo()
+    ensures law { OneSessionRunsAreSolo }
+    ensures unique { OneSessionRunsAreUnique }
 {}

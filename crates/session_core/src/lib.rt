@@ -18,7 +18,10 @@ mod tests;
 pub use demand::Demand;
 pub use finishing::finish;
 pub use host::Host;
-pub use laws::{columns_are_demanded, images_are_sums, solo_runs_are_legal, solo_runs_are_unique};
+pub use laws::{
+    columns_are_demanded, images_are_sums, legal_histories_are_versions, one_session_runs_are_solo,
+    solo_runs_are_legal, solo_runs_are_unique,
+};
 pub use outcome::Finish;
 pub use prepared::Prepared;
 pub use preparing::prepare;

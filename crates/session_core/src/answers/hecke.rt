@@ -1,6 +1,5 @@
-ghost use Rattle.std.specs.Prelude.{◌≡◌, ◌<◌, ◌≤◌, ◌^◌, ℕ, All, IfOk, List, filter, length, map, pos, true};
-ghost use Rattle.std.specs.List.{Contains};
-ghost use Rattle.std.specs.Ordering.{int_eq};
+ghost use Rattle.std.specs.Prelude.{◌≡◌, ◌<◌, ◌≤◌, ◌^◌, ℕ, All, IfOk, List, length, map, true};
+ghost use Rattle.std.specs.List.{Contains, sum_by};
 ghost use Rattle.field_table.specs.Terms.{residue_terms};
 ghost use Rattle.hecke_columns.specs.Hecke.{hecke_sum};
 ghost use Rattle.linear_algebra.specs.Sparse.{sparse};
@@ -11,8 +10,9 @@ ghost use Rattle.split_state.specs.Decomposition.{Decomposition};
 
 use field_table::{OutOfMemory, Residues};
 use hecke_columns::ColumnSource;
-use heilbronn_sets::{SetFault, merel_set};
-use p1_normal::{MAX_DET, Matrix};
+use heilbronn_chains::Chain;
+use heilbronn_sets::SetFault;
+use p1_normal::MAX_DET;
 use quotient_coords::Space;
 use reply_text::Reply;
 use std::alloc::Global;
@@ -61,34 +61,31 @@ pub fn image<C: ColumnSource>(
     })
 }
 
-// How many of the matrices have b = 0.
-fn starts_among(list: &[Matrix]) -> u32
-    requires few { length list.now < 2 ^ 32 }
-    ensures { result ≡ length (filter (λ m. int_eq m.b (pos 0)) list.now) }
+// How many matrices chains have together.
+fn matrix_count(chains: &[Chain]) -> u32
+    requires few { sum_by (λ ms. length ms) chains.now < 2 ^ 32 }
+    ensures { result ≡ sum_by (λ ms. length ms) chains.now }
 {
     let mut count = 0;
-    for matrix in list {
-        if matrix.b == 0 {
-            count += 1;
-        }
+    for chain in chains {
+        count += chain.as_slice().len() as u32;
     }
     count
 }
 
-/// How many chains Merel's set of determinant n falls into, each with one matrix whose b is 0, and how many matrices
-/// it has. Makes a set of its own.
+/// How many chains Merel's set of determinant n falls into, and how many matrices they have together. Walks the chains.
 pub fn chains(alloc: Global, n: u32) -> Result<Reply, OutOfMemory>
     requires limits { (0 < n) × (n ≤ MAX_DET) }
     ensures { (g : Ground) (v : ℕ) (s : Decomposition) →
         IfOk result (IsAnswer g v s (commands.Chains n)) }
 {
-    let set = match merel_set(alloc, n) {
-        Ok(set) => set,
+    let list = match heilbronn_chains::chains(alloc, n) {
+        Ok(list) => list,
         Err(SetFault::OutOfMemory) => return Err(OutOfMemory),
         Err(_) => unreachable!(),
     };
     Ok(Reply::Chains {
-        chains: starts_among(set.list()),
-        matrices: set.list().len() as u32,
+        chains: list.len() as u32,
+        matrices: matrix_count(&list),
     })
 }

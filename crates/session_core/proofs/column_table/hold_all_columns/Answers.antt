@@ -15,7 +15,6 @@ returns-in_err-hold_column-clause-adds c =
 
 pub loop-k-preserved : goal.loop-k-preserved
 loop-k-preserved c = record {
-  merel = c.hold_column.ensures.merel;
   columns = c.hold_column.ensures.columns;
   adds = number_added c.args.n c.loop-k.k (keys c.args.columns.now) (keys c.loop-k.columns) (keys c.hold_column.new.columns)
       c.loop-k.invariant.adds c.hold_column.ensures.adds;

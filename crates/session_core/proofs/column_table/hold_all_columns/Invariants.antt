@@ -1,12 +1,11 @@
 use Rattle.std.specs.List.{range_with_len}
 use Rattle.indexmap.specs.IndexMap.{keys}
-use Rattle.session_core.specs.ColumnTable.{AreMerelSets, AreColumns}
+use Rattle.session_core.specs.ColumnTable.{AreColumns}
 use Rattle.session_core.specs.Demands.{Adds, HasAll, symbol_pairs}
 use Rattle.session_core.proofs.column_table.hold_all_columns.Given as goal
 
 abbrev pub invariant-loop-k : goal.invariant-loop-k
 invariant-loop-k l = record {
-  merel : AreMerelSets l.sets.entries;
   columns : AreColumns l.space l.columns.entries;
   adds : Adds (symbol_pairs l.n (range_with_len 0 l.k)) (keys l.fn.columns) (keys l.columns);
   held : HasAll (keys l.columns) (symbol_pairs l.n (range_with_len 0 l.k));

@@ -12,7 +12,6 @@ returns-in_err-hold_column-clause-adds c =
 
 pub loop-k-preserved : goal.loop-k-preserved
 loop-k-preserved c = record {
-  merel = c.hold_column.ensures.merel;
   columns = c.hold_column.ensures.columns;
   adds = symbol_added c.args.n c.loop-k.k-index (get_or c.args.given.now c.loop-k.k-index 0) c.args.given.now (keys c.args.columns.now)
       (keys c.loop-k.columns) (keys c.hold_column.new.columns)

@@ -1,4 +1,4 @@
-use Rattle.std.proofs.Common.{◌≡◌, sym, ◌∙◌, ap, subst, rules}
+use Rattle.std.proofs.Common.{◌≡◌, sym, ◌∙◌, subst, rules}
 use Rattle.quotient_coords.specs.Quotient.{Ground, ground_of}
 use Rattle.session_core.specs.Prepared.{IsPrepared}
 use Rattle.session_core.proofs.PreparingLemmas.{unrefused_of}

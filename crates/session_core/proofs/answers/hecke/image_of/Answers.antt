@@ -1,4 +1,4 @@
-use Rattle.std.proofs.Common.{◌≡◌, ◌<◌, [], length, get_or, refl, sym, ◌∙◌, ap, arith, rules, subst}
+use Rattle.std.proofs.Common.{◌≡◌, ◌<◌, length, get_or, refl, sym, ◌∙◌, ap, arith, rules}
 use Rattle.std.proofs.lemmas.List.{with_items_is}
 use Rattle.heilbronn_sets.specs.Sets.{Matrices}
 use Rattle.session_core.proofs.ImageLemmas.{no_pair, image_start, image_more, gives_at, same_ground, added_at}

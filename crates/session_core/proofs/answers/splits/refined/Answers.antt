@@ -1,4 +1,4 @@
-use Rattle.std.proofs.Common.{◌≡◌, sym, ◌∙◌, ap, subst, inl, inr}
+use Rattle.std.proofs.Common.{sym, ◌∙◌, subst}
 use Rattle.field_table.specs.Residues.{AreResidues}
 use Rattle.field_table.specs.Table.{IsListed}
 use Rattle.dense_mat.specs.Matrix.{IsMatrix}

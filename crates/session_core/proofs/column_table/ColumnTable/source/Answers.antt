@@ -1,4 +1,3 @@
-use Rattle.std.proofs.Common.{rules}
 use Rattle.session_core.proofs.DemandLemmas.{table_serves}
 use Rattle.session_core.proofs.column_table.ColumnTable.source.Goals as goal
 

@@ -1,4 +1,4 @@
-use Rattle.std.proofs.Common.{length, ap, sym, subst, arith, ◌≡◌}
+use Rattle.std.proofs.Common.{length, ap, sym, subst, arith}
 use Rattle.split_state.specs.Step.{IsWhole}
 use Rattle.split_state.specs.Versions.{IsVersion}
 use Rattle.split_state.proofs.Versions.{version_whole}

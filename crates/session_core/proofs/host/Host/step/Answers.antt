@@ -1,4 +1,4 @@
-use Rattle.std.proofs.Common.{◌≡◌, length, ap, subst, ◌∙◌}
+use Rattle.std.proofs.Common.{length, ap, subst, ◌∙◌}
 use Rattle.session_core.specs.Demands.{Gathers, line_demand}
 use Rattle.session_core.specs.Hosts.{HostState, EntersLine}
 use Rattle.session_core.proofs.host.Host.step.Goals as goal
