@@ -1,2 +1,6 @@
 pub mod Statuses
 pub mod Runs
+pub mod Workers
+pub mod Works
+pub mod Sessions
+pub mod Lookups

@@ -1,19 +1,24 @@
--- What a run leaves behind.
---   is_solo words    the words of the command line are the one word `solo`
---   Stream           the bytes that a source has left or that a sink has taken, where it tells them
---   Writes bytes P   the bytes are a script, and P holds of the text of a run of it on one thread, which is a legal run (law `solo_runs_are_legal`)
---   LeavesSolo ..    what a run of `solo` leaves, from the streams and their counts of faults before and after, and its status:
---     done           the text of such a run of the script that was left was appended
---     ended          the input was read to its end, also where it is no script
---     write_fault    the output's count rose, and a part of such a text was appended
---     read_fault     the input's count rose
---     too_long       more bytes than MAX_INPUT were taken, exactly
---     bad_script     the bytes that were left are no script: the first line that breaks a rule, and why
---     nothing        nothing is written with another status
---     words          the status is not that of other words
---     reads, writes  no count of faults falls
---   LeavesUnread ..  the streams as they were
-use Rattle.std.specs.Prelude.{◌≡◌, ◌≢◌, ℕ, ◌≤◌, Bool, false, List, [], ◌∷◌, Option, IfSome, Ok, Err, codes, string_bytes, String}
+-- What a run leaves behind; R tells which transcripts are a run of a script.
+--   are_word words w   the words of the command line are the one word w
+--   Stream             the bytes that a source has left or that a sink has taken, where it tells them
+--   Writes R bytes P   the bytes are a script, and P holds of the text of a run of it, in whose history each version is a stable direct sum of the whole
+--                      space that refines the one before it
+--   ReadsScript ..     the script of an input or the status of a run without one, from the stream and its count of faults before and after:
+--     script           the bytes that were left are that script, and the input was read to its end
+--     status           it is one of ReadFault, TooLong, BadScript and OutOfMemory, with what `LeavesRun` says of each
+--   WritesTranscript ..  a text was appended (Done), or a part of it and the count of faults rose (WriteFault)
+--   LeavesRun R ..     what a run leaves, from the streams and their counts of faults before and after, and its status:
+--     done             the text of a run of the script that was left was appended
+--     ended            the input was read to its end, also where it is no script
+--     write_fault      the output's count rose, and a part of such a text was appended
+--     read_fault       the input's count rose
+--     too_long         more bytes than MAX_INPUT were taken, exactly
+--     bad_script       the bytes that were left are no script: the first line that breaks a rule, and why
+--     nothing          nothing is written with another status
+--     words            the status is not that of other words
+--     reads, writes    no count of faults falls
+--   LeavesUnread ..    the streams as they were
+use Rattle.std.specs.Prelude.{◌≡◌, ◌≢◌, ◌⊎◌, ℕ, ◌≤◌, Bool, false, List, [], ◌∷◌, Option, IfSome, Result, Ok, Err, OnOk, IfOk, IfErr, string_bytes, String}
 use Rattle.std.specs.Global.{Global}
 use Rattle.std.specs.Io.KnownBytes.{Appends, Keeps, IsAtEnd}
 use Rattle.std.specs.Str.{bytes_eq}
@@ -26,20 +31,40 @@ use Rattle.script_text.specs.Scripts.{script_of}
 use Rattle.script_text.specs.Valid.{ScriptText}
 use Rattle.reply_text.specs.declared.transcript.Transcript.{Transcript}
 use Rattle.reply_text.specs.Transcripts.{transcript_text}
+use Rattle.session_core.specs.Histories.{VersionsAreSplittings}
+use Rattle.session_core.specs.Transcripts.{script_ground}
 use Rattle.host_workers.specs.declared.status.Status.{Status}
 use Rattle.host_workers.specs.declared.status.Status.TheVariants.{Done, Usage, ReadFault, WriteFault, TooLong, BadScript}
 use Rattle.host_workers.specs.declared.status.TheConstants.{MAX_INPUT}
-use Rattle.session_core.specs.SoloRuns.{IsSoloRun}
 
 abbrev pub Stream : Type 0
 Stream = Option (List ℕ)
 
-pub record Writes (bytes : List ℕ) (P : List ℕ → Type 0) : Type 0 where
+pub record Writes (IsRun : ScriptText → Transcript → Type 0) (bytes : List ℕ) (P : List ℕ → Type 0) : Type 0 where
   pub script : ScriptText
   pub is_script : script_of bytes ≡ Ok script
   pub transcript : Transcript
-  pub is_run : IsSoloRun script transcript
+  pub is_run : IsRun script transcript
+  pub versions : VersionsAreSplittings (script_ground script) transcript.history
   pub text : P (transcript_text transcript)
+
+pub record ReadsScript (left_before left_after : Stream) (read_before read_after : ℕ) (result : Result ScriptText Status) : Type 0 where
+  pub script : IfOk result (λ script. IfSome left_before (λ bytes. script_of bytes ≡ Ok script))
+  pub ended : OnOk result (IsAtEnd left_after)
+  pub bad_ended : (line : ℕ) (cause : ScriptCause) → result ≡ Err (BadScript line cause) → IsAtEnd left_after
+  pub read_fault : result ≡ Err ReadFault → Rose read_before read_after
+  pub too_long : TakesWithin left_before left_after MAX_INPUT (result ≡ Err TooLong)
+  pub bad_script : (line : ℕ) (cause : ScriptCause) → result ≡ Err (BadScript line cause)
+      → IfSome left_before (λ bytes. script_of bytes ≡ Err (faults.BadScript line cause))
+  pub status : IfErr result (λ status. (status ≢ Done) × (status ≢ WriteFault) × (status ≢ Usage))
+  pub reads : read_before ≤ read_after
+
+pub record WritesTranscript (written_before written_after : Stream) (write_before write_after : ℕ) (transcript : Transcript) (status : Status) : Type 0 where
+  pub done : status ≡ Done → Appends written_before written_after (transcript_text transcript)
+  pub part : status ≡ WriteFault → AppendsPart written_before written_after (transcript_text transcript)
+  pub write_fault : status ≡ WriteFault → Rose write_before write_after
+  pub outcome : (status ≡ Done) ⊎ (status ≡ WriteFault)
+  pub writes : write_before ≤ write_after
 
 pub record LeavesUnread (left_before left_after written_before written_after : Stream) (read_before read_after write_before write_after : ℕ) : Type 0 where
   pub left : left_after ≡ left_before
@@ -47,21 +72,23 @@ pub record LeavesUnread (left_before left_after written_before written_after : S
   pub reads : read_after ≡ read_before
   pub writes : write_after ≡ write_before
 
-pub record LeavesSolo (left_before left_after written_before written_after : Stream) (read_before read_after write_before write_after : ℕ) (status : Status) : Type 0 where
-  pub done : status ≡ Done → IfSome left_before (λ bytes. Writes bytes (λ text. Appends written_before written_after text))
+pub record LeavesRun (IsRun : ScriptText → Transcript → Type 0) (left_before left_after written_before written_after : Stream)
+    (read_before read_after write_before write_after : ℕ) (status : Status) : Type 0 where
+  pub done : status ≡ Done → IfSome left_before (λ bytes. Writes IsRun bytes (λ text. Appends written_before written_after text))
   pub ended : status ≡ Done → IsAtEnd left_after
   pub bad_ended : (line : ℕ) (cause : ScriptCause) → status ≡ BadScript line cause → IsAtEnd left_after
   pub write_fault : status ≡ WriteFault → Rose write_before write_after
-  pub part : status ≡ WriteFault → IfSome left_before (λ bytes. Writes bytes (λ text. AppendsPart written_before written_after text))
+  pub part : status ≡ WriteFault → IfSome left_before (λ bytes. Writes IsRun bytes (λ text. AppendsPart written_before written_after text))
   pub read_fault : status ≡ ReadFault → Rose read_before read_after
   pub too_long : TakesWithin left_before left_after MAX_INPUT (status ≡ TooLong)
-  pub bad_script : (line : ℕ) (cause : ScriptCause) → status ≡ BadScript line cause → IfSome left_before (λ bytes. script_of bytes ≡ Err (faults.BadScript line cause))
+  pub bad_script : (line : ℕ) (cause : ScriptCause) → status ≡ BadScript line cause
+      → IfSome left_before (λ bytes. script_of bytes ≡ Err (faults.BadScript line cause))
   pub words : status ≢ Usage
   pub nothing : status ≢ Done → status ≢ WriteFault → Keeps written_before written_after
   pub reads : read_before ≤ read_after
   pub writes : write_before ≤ write_after
 
-abbrev pub is_solo : List (String Global) → Bool
-is_solo [] = false
-is_solo (word ∷ []) = bytes_eq (string_bytes word) (codes "solo")
-is_solo (word ∷ next ∷ words) = false
+abbrev pub are_word : List (String Global) → List ℕ → Bool
+are_word [] w = false
+are_word (word ∷ []) w = bytes_eq (string_bytes word) w
+are_word (word ∷ next ∷ words) w = false

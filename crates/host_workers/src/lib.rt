@@ -3,17 +3,28 @@
 //! promise that the bytes written are the transcript of the bytes read.
 #![tactic(auto)]
 
-mod gate;
+mod gathering;
+mod host;
 mod laws;
+mod reading;
+mod serve;
+mod session;
+mod sessions;
+mod sharing;
 mod solo;
 mod status;
 #[cfg(test)]
 mod tests;
 mod top;
 mod transcript;
+mod work;
 
-pub use gate::{Gate, GatePoint, NoGate};
-pub use laws::limits;
+pub use column_flight::{Gate, GatePoint, NoGate};
+pub use host::run_host;
+pub use laws::{limits, shared_runs_are_legal};
+pub use session::run_session;
+pub use sessions::run_sessions;
 pub use solo::run_solo;
 pub use status::{MAX_INPUT, Status};
 pub use top::run;
+pub use work::{SessionWork, SpaceBoards};

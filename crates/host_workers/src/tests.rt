@@ -1,7 +1,12 @@
+mod serving;
+mod session;
+
 use super::{NoGate, Status, limits, run, run_solo};
 use script_text::ScriptCause;
 use std::alloc::Global;
+use std::sync::Wait;
 use std::test::Fail;
+use std::thread::Threads;
 use sym_io::{MemSink, MemSource};
 
 const SCRIPT: &[u8] = b"space 11 101\nsession\nnormal 22 7\nnormal 3 1\nnormal 0 0\n";
@@ -111,33 +116,62 @@ fn cases() -> [Case; 16] {
     ]
 }
 
+// The status of a run with one word, and whether it wrote the text of the case.
+fn runs_as<R: Threads + Wait + Sync>(
+    rt: &R,
+    alloc: Global,
+    word: &str,
+    case: &Case,
+) -> Result<bool, Fail> {
+    let mut words = Vec::new(alloc);
+    words.push(String::from_str(alloc, word)?)?;
+    let bytes = case.script.to_vec(alloc)?;
+    let mut input = MemSource::new(bytes, 8, case.read_fails.to_vec(alloc)?);
+    let mut output = MemSink::new(alloc, case.room, 8, case.write_fails.to_vec(alloc)?)?;
+    let status = run(rt, alloc, &words, &mut input, &mut output, &NoGate);
+    Ok(status == case.status && output.bytes() == case.written)
+}
+
 #[test]
 fn each_script_has_its_status_and_text(rt: HostRuntime) -> Result<(), Fail> {
-    let alloc = rt.alloc();
-    let mut words = Vec::new(alloc);
-    words.push(String::from_str(alloc, "solo")?)?;
     for case in cases() {
-        let bytes = case.script.to_vec(alloc)?;
-        let mut input = MemSource::new(bytes, 8, case.read_fails.to_vec(alloc)?);
-        let mut output = MemSink::new(alloc, case.room, 8, case.write_fails.to_vec(alloc)?)?;
-        let status = run(&rt, alloc, &words, &mut input, &mut output, &NoGate);
-        assert_eq!(rt; status, case.status);
-        assert!(rt; output.bytes() == case.written);
+        assert!(rt; runs_as(&rt, rt.alloc(), "solo", &case)?);
     }
     Ok(())
+}
+
+// So it has with `serve`, where it has one session that splits, or none that does.
+#[test]
+fn sessions_at_once_have_the_same_text(rt: HostRuntime) -> Result<(), Fail> {
+    for case in cases() {
+        assert!(rt; runs_as(&rt, rt.alloc(), "serve", &case)?);
+    }
+    Ok(())
+}
+
+// Whether these words are refused with nothing read or written.
+fn are_refused<R: Threads + Wait + Sync>(
+    rt: &R,
+    alloc: Global,
+    words: &[&str],
+) -> Result<bool, Fail> {
+    let mut list = Vec::new(alloc);
+    for word in words {
+        list.push(String::from_str(alloc, word)?)?;
+    }
+    let mut input = MemSource::new(SCRIPT.to_vec(alloc)?, 8, [0].to_vec(alloc)?);
+    let mut output = MemSink::new(alloc, 1000, 8, Vec::new(alloc))?;
+    let status = run(rt, alloc, &list, &mut input, &mut output, &NoGate);
+    Ok(status == Status::Usage && output.bytes().is_empty())
 }
 
 #[test]
 fn other_words_read_nothing(rt: HostRuntime) -> Result<(), Fail> {
     let alloc = rt.alloc();
-    for word in ["", "serve", "gen", "-1"] {
-        let mut words = Vec::new(alloc);
-        words.push(String::from_str(alloc, word)?)?;
-        let mut input = MemSource::new(SCRIPT.to_vec(alloc)?, 8, [0].to_vec(alloc)?);
-        let mut output = MemSink::new(alloc, 1000, 8, Vec::new(alloc))?;
-        let status = run(&rt, alloc, &words, &mut input, &mut output, &NoGate);
-        assert_eq!(rt; status, Status::Usage);
-        assert!(rt; output.bytes().is_empty());
+    assert!(rt; are_refused(&rt, alloc, &[])?);
+    assert!(rt; are_refused(&rt, alloc, &["serve", "x"])?);
+    for word in ["", "gen", "-1", "Serve"] {
+        assert!(rt; are_refused(&rt, alloc, &[word])?);
     }
     Ok(())
 }

@@ -1,48 +1,58 @@
-ghost use Rattle.std.specs.Prelude.{◌≡◌, ◌↔◌, true, false};
-ghost use Rattle.host_workers.specs.Runs.{is_solo, LeavesSolo, LeavesUnread};
+ghost use Rattle.std.specs.Prelude.{◌≡◌, ◌↔◌, codes, true, false};
+ghost use Rattle.session_core.specs.SoloRuns.{IsSoloRun};
+ghost use Rattle.session_core.specs.Transcripts.{IsLegalRun};
+ghost use Rattle.host_workers.specs.Runs.{LeavesRun, LeavesUnread, are_word};
 
-use crate::gate::Gate;
+use crate::serve::run_serve;
 use crate::solo::run_solo;
 use crate::status::Status;
+use column_flight::Gate;
 use std::alloc::Global;
 use std::sync::Wait;
 use std::thread::Threads;
 use sym_io::{Sink, Source};
 
 /// All that the program does: it takes the words of the command line, reads a script from the input and writes
-/// its transcript to the output. Words that are no line of the table of words are `Usage`, with nothing read or
-/// written; today the one line is `solo`.
+/// its transcript to the output. With the one word `solo` the sessions run one after another and it returns on every
+/// input; with the one word `serve` they run all at once. Other words are `Usage`, with nothing read or written.
 pub fn run<R: Threads + Wait + Sync, I: Source, O: Sink, G: Gate>(
-    _rt: &R,
+    rt: &R,
     alloc: Global,
     words: &[String],
     input: &mut I,
     output: &mut O,
-    _gate: &G,
+    gate: &G,
 ) -> Status
-    ensures usage { result ≡ Status.Usage ↔ (is_solo words.now ≡ false) }
+    ensures usage { result ≡ Status.Usage ↔
+        ((are_word words.now (codes "solo") ≡ false) × (are_word words.now (codes "serve") ≡ false)) }
     ensures unread { result ≡ Status.Usage →
         LeavesUnread (I.left input.old) (I.left input.new) (O.written output.old)
         (O.written output.new)
         (I.faults input.old) (I.faults input.new) (O.faults output.old) (O.faults output.new) }
-    ensures solo { is_solo words.now ≡ true →
-        LeavesSolo (I.left input.old) (I.left input.new) (O.written output.old)
+    ensures solo { are_word words.now (codes "solo") ≡ true →
+        LeavesRun IsSoloRun (I.left input.old) (I.left input.new) (O.written output.old)
+        (O.written output.new)
+        (I.faults input.old) (I.faults input.new) (O.faults output.old) (O.faults output.new) result }
+    ensures serve { are_word words.now (codes "serve") ≡ true →
+        LeavesRun IsLegalRun (I.left input.old) (I.left input.new) (O.written output.old)
         (O.written output.new)
         (I.faults input.old) (I.faults input.new) (O.faults output.old) (O.faults output.new) result }
 {
-    if is_solo(words) {
+    if are_word(words, b"solo") {
         run_solo(alloc, input, output)
+    } else if are_word(words, b"serve") {
+        run_serve(rt, alloc, input, output, gate)
     } else {
         Status::Usage
     }
 }
 
-// Whether the words are the one word `solo`.
-fn is_solo(words: &[String]) -> bool
-    ensures { result ≡ is_solo words.now }
+// Whether the words are this one word.
+fn are_word(words: &[String], only: &[u8]) -> bool
+    ensures { result ≡ are_word words.now only.now }
 {
     match words {
-        [word] => word.as_bytes() == b"solo".as_slice(),
+        [word] => word.as_bytes() == only,
         _ => false,
     }
 }

@@ -2,6 +2,7 @@ ghost use Rattle.std.specs.Prelude.{◌≡◌, ◌≤◌, IfOk, length};
 ghost use Rattle.std.specs.List.{AllZip, enumerate_from};
 ghost use Rattle.script_text.specs.Valid.{command_count};
 ghost use Rattle.session_core.specs.Demands.{Adds, told_demand, told_demands};
+ghost use Rattle.session_core.specs.Histories.{VersionsAreSplittings};
 ghost use Rattle.session_core.specs.SoloRuns.{AnswersLines, AnswersSessions, IsSoloRun};
 ghost use Rattle.session_core.specs.Transcripts.{HoldsDemand, script_ground};
 
@@ -65,7 +66,7 @@ fn script_replies(
 }
 
 // The space of a script, whose header names a level within the limit and a listed characteristic.
-fn space_of(alloc: Global, script: &Script) -> Result<Space, OutOfMemory>
+pub(crate) fn space_of(alloc: Global, script: &Script) -> Result<Space, OutOfMemory>
     ensures { IfOk result (λ s. s ≡ script_ground script.now) }
 {
     let line = script.space();
@@ -82,7 +83,8 @@ fn space_of(alloc: Global, script: &Script) -> Result<Space, OutOfMemory>
 
 /// The transcript of a script, its sessions run one after another.
 pub fn transcript_of(alloc: Global, script: &Script) -> Result<Transcript, OutOfMemory>
-    ensures { IfOk result (IsSoloRun script.now) }
+    ensures run { IfOk result (IsSoloRun script.now) }
+    ensures versions { IfOk result (λ t. VersionsAreSplittings (script_ground script.now) t.history) }
 {
     let space = space_of(alloc, script)?;
     let symbols = space.level().count();
