@@ -1,10 +1,12 @@
 #!/usr/bin/env python3
-"""Makes the script of a number, or the summary of its transcript, as the word `gen` has them.
+"""Makes a script from a number, a load that anyone can repeat, and sums up its transcript.
 
-    examples/generate.py 1                        the script that the number 1 makes
-    examples/generate.py 1 < transcript           with a transcript of it as input: what `./symbol gen 1` prints
+    examples/generate.py 1 > script               the script that the number 1 makes
+    ./symbol serve < script > transcript
+    examples/generate.py 1 < transcript           how many replies were answers, and the sum of all image coordinates
 
-Draws are by the minimal standard generator of Park and Miller, x -> 16807 x modulo 2^31 - 1."""
+Draws are by the minimal standard generator of Park and Miller, x -> 16807 x modulo 2^31 - 1. The summary is the same
+by `solo` and by `serve`, and in every run, where no reply is `err memory`."""
 
 import re
 import sys
