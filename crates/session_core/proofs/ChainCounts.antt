@@ -1,5 +1,5 @@
 -- How many chains Merel's set of determinant n falls into, and how many matrices they have together.
-use Rattle.std.proofs.Common.{◌≡◌, ◌<◌, ◌≤◌, ◌^◌, ℕ, List, length, map, pos, sym, ◌∙◌, ap, refl, arith}
+use Rattle.std.proofs.Common.{◌≡◌, ◌<◌, ◌≤◌, ◌^◌, ℕ, List, length, pos, sym, ◌∙◌, ap, refl, arith}
 use Rattle.std.specs.List.{flat_map, sum_by}
 use Rattle.std.specs.Ordering.{int_eq}
 use Rattle.std.proofs.lemmas.List.{length-map}

@@ -1,8 +1,8 @@
 -- The entries of tables, each with a property, and the columns that they hold.
-use Rattle.std.proofs.Common.{◌≡◌, ℕ, Bool, true, false, cond, List, [], ◌∷◌, ◌++◌, All, Option, None, Some, IsSome, is_some, nat_eq, ◌||◌, refl, sym, ◌∙◌, ap, subst, rules}
+use Rattle.std.proofs.Common.{◌≡◌, ℕ, Bool, true, false, cond, List, [], ◌∷◌, ◌++◌, All, Option, None, Some, IsSome, is_some, ◌||◌, refl, sym, ◌∙◌, ap, subst, rules}
 use Rattle.std.specs.Map.{keys_of, lookup}
 use Rattle.std.specs.Set.{is_member}
-use Rattle.std.proofs.lemmas.Bool.{eqb-true, true≢false}
+use Rattle.std.proofs.lemmas.Bool.{true≢false}
 use Rattle.std.proofs.lemmas.List.Elements.{All-head, All-tail}
 use Rattle.quotient_coords.specs.Quotient.{Ground}
 use Rattle.heilbronn_sets.specs.Merel.{merel_matrices}

@@ -1,6 +1,5 @@
-use Rattle.std.proofs.Common.{◌≡◌, ◌<◌, ◌^◌, length, sym, ◌∙◌, ap, arith, rules}
-use Rattle.heilbronn_sets.specs.Merel.{merel_matrices, starts}
-use Rattle.reply_text.specs.declared.reply.Reply.TheVariants as replies
+use Rattle.std.proofs.Common.{◌≡◌, length, ◌∙◌, rules}
+use Rattle.heilbronn_sets.specs.Merel.{merel_matrices}
 use Rattle.session_core.proofs.ChainCounts.{chain_lengths, chain_number, lengths_fit, number_fits}
 use Rattle.session_core.proofs.answers.hecke.chains.Goals as goal
 
