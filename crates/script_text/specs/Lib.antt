@@ -8,3 +8,4 @@ pub mod Grammar
 pub mod Limits
 pub mod Commands
 pub mod Walk
+pub mod Draws

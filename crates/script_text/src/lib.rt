@@ -5,6 +5,7 @@
 
 mod command;
 mod command_fault;
+mod drawn;
 mod fields;
 mod items;
 mod kind;
@@ -22,6 +23,7 @@ mod word;
 
 pub use command::{Command, parse_command};
 pub use command_fault::{CommandFault, LimitWord};
+pub use drawn::{DrawnCommand, DrawnTerm};
 pub use items::{Integers, Items, Terms};
 pub use kind::Kind;
 pub use limits::{MAX_COMMANDS, MAX_MAGNITUDE, MAX_SESSIONS, MAX_TERMS, limit_values};
