@@ -1,4 +1,6 @@
+pub mod DrawLemmas
 pub mod FormLemmas
+pub mod GeneratedLemmas
 pub mod ReadingLemmas
 pub mod ScriptLemmas
 pub mod SessionLemmas

@@ -12,8 +12,10 @@
 --   operator N            star in one case of four, else T_n
 --   command_of_kind N k   a command of the kind numbered k, from 0 to 7
 --   drawn_command N       a command at level N
+--   drawn_space           a level of 100 to 200, and one of the twelve characteristics
 --   Drawing               a level, a characteristic, and the commands of each session
---   drawing seed          those of four sessions of forty commands, by the draws from the seed on
+--   choose_drawing        a level, a characteristic, and four sessions of forty commands
+--   drawing seed          those that the draws from the seed on choose
 --   term_text t           the text of a term
 --   operator_text o       the name of an operator
 --   drawn_text d          the line of a command
@@ -21,15 +23,19 @@
 --   blocks_from n ss      the sessions ss, where the first has its session line at n, and the next after its commands
 --   script_of_drawing d   its script, where the header is line 1, and no line is skipped
 --   generated seed        the script of the seed
-use Rattle.std.specs.Prelude.{ℕ, suc, ◌+◌, ◌*◌, ◌%◌, List, [], ◌∷◌, ◌++◌, map, length, filter, get_or, nat_eq, codes, decimal, Option, Some, None, ◌==◌, if◌then◌else◌}
-use Rattle.std.specs.List.{enumerate_from, range_with_len}
+--   HasFourSessions seed  its level is 100 to 200, its characteristic is listed, and there are four sessions of forty
+--                         commands, each on a line
+use Rattle.std.specs.Prelude.{◌≡◌, ℕ, zero, suc, ◌≤◌, ◌+◌, ◌*◌, ◌%◌, List, [], ◌∷◌, ◌++◌, map, length, filter, get_or, nat_eq, codes, decimal, Option, Some, None, ◌==◌, if◌then◌else◌}
+use Rattle.std.specs.List.{All, AllZip, enumerate_from, range_with_len}
 use Rattle.field_table.specs.declared.table.TheConstants.{CHARACTERISTICS}
+use Rattle.field_table.specs.Table.{IsListed}
 use Rattle.p1_normal.specs.Units.{gcd}
 use Rattle.op_polynomials.specs.declared.name.OpName.{OpName}
 use Rattle.op_polynomials.specs.declared.name.OpName.TheVariants as ops
 use Rattle.script_text.specs.declared.drawn.DrawnCommand.{DrawnCommand}
 use Rattle.script_text.specs.declared.drawn.DrawnCommand.TheVariants as drawn
 use Rattle.script_text.specs.declared.drawn.DrawnTerm.{DrawnTerm}
+use Rattle.script_text.specs.declared.space.SpaceLine.{SpaceLine}
 use Rattle.script_text.specs.Numbered.{NumberedLine}
 use Rattle.script_text.specs.Valid.{ScriptText}
 
@@ -43,7 +49,7 @@ abbrev pub and_then : {A B : Type 0} → Choice A → (A → Choice B) → Choic
 and_then first next state = next (first state).0 (first state).1
 
 unfoldable pub times : {A : Type 0} → ℕ → Choice A → Choice (List A)
-times 0 choice = chosen []
+times zero choice = chosen []
 times (suc k) choice = and_then choice (λ x. and_then (times k choice) (λ xs. chosen (x ∷ xs)))
 
 abbrev pub first_state : ℕ → ℕ
@@ -78,21 +84,24 @@ command_of_kind N kind =
     else if kind == 6 then chosen drawn.Show
     else and_then (operator N) (λ op. and_then (pick 10) (λ c. chosen (drawn.Split op c)))
 
-abbrev pub drawn_command : ℕ → Choice DrawnCommand
+unfoldable pub drawn_command : ℕ → Choice DrawnCommand
 drawn_command N = and_then (pick 8) (command_of_kind N)
+
+unfoldable pub drawn_space : Choice SpaceLine
+drawn_space = and_then (pick 101) (λ level. and_then (pick 12) (λ place.
+    chosen (record { modulus = 100 + level; characteristic = get_or CHARACTERISTICS place 0 })))
 
 pub record Drawing : Type 0 where
   pub level : ℕ
   pub characteristic : ℕ
   pub sessions : List (List DrawnCommand)
 
+abbrev pub choose_drawing : Choice Drawing
+choose_drawing = and_then drawn_space (λ space. and_then (times 4 (times 40 (drawn_command space.modulus))) (λ sessions.
+    chosen (record { level = space.modulus; characteristic = space.characteristic; sessions = sessions })))
+
 abbrev pub drawing : ℕ → Drawing
-drawing seed = (choice (first_state seed)).0
-  where
-    choice : Choice Drawing
-    choice =
-        and_then (pick 101) (λ level. and_then (pick 12) (λ place. and_then (times 4 (times 40 (drawn_command (100 + level)))) (λ sessions.
-        chosen (record { level = 100 + level; characteristic = get_or CHARACTERISTICS place 0; sessions = sessions }))))
+drawing seed = (choose_drawing (first_state seed)).0
 
 abbrev pub term_text : DrawnTerm → List ℕ
 term_text t = decimal t.coefficient ++ codes ":1:" ++ decimal t.v
@@ -126,3 +135,14 @@ script_of_drawing d = record {
 
 unfoldable pub generated : ℕ → ScriptText
 generated seed = script_of_drawing (drawing seed)
+
+pub record HasFourSessions (seed : ℕ) : Type 0 where
+  pub least : 100 ≤ (drawing seed).level
+  pub most : (drawing seed).level ≤ 200
+  pub listed : IsListed (drawing seed).characteristic
+  pub sessions : length (drawing seed).sessions ≡ 4
+  pub commands : All (λ (session : List DrawnCommand). length session ≡ 40) (drawing seed).sessions
+  pub blocks : length (generated seed).sessions ≡ 4
+  pub lines :
+      AllZip (λ (block : List NumberedLine) (session : List DrawnCommand). length block ≡ length session)
+      (generated seed).sessions (drawing seed).sessions
