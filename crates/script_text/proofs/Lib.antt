@@ -1,6 +1,7 @@
 pub mod DrawLemmas
 pub mod FormLemmas
 pub mod GeneratedLemmas
+pub mod GenerationLemmas
 pub mod ReadingLemmas
 pub mod ScriptLemmas
 pub mod SessionLemmas

@@ -14,7 +14,7 @@
 --   drawn_command N       a command at level N
 --   drawn_space           a level of 100 to 200, and one of the twelve characteristics
 --   Drawing               a level, a characteristic, and the commands of each session
---   choose_drawing        a level, a characteristic, and four sessions of forty commands
+--   chosen_drawing        a level, a characteristic, and four sessions of forty commands
 --   drawing seed          those that the draws from the seed on choose
 --   term_text t           the text of a term
 --   operator_text o       the name of an operator
@@ -96,12 +96,12 @@ pub record Drawing : Type 0 where
   pub characteristic : ℕ
   pub sessions : List (List DrawnCommand)
 
-abbrev pub choose_drawing : Choice Drawing
-choose_drawing = and_then drawn_space (λ space. and_then (times 4 (times 40 (drawn_command space.modulus))) (λ sessions.
+abbrev pub chosen_drawing : Choice Drawing
+chosen_drawing = and_then drawn_space (λ space. and_then (times 4 (times 40 (drawn_command space.modulus))) (λ sessions.
     chosen (record { level = space.modulus; characteristic = space.characteristic; sessions = sessions })))
 
 abbrev pub drawing : ℕ → Drawing
-drawing seed = (choose_drawing (first_state seed)).0
+drawing seed = (chosen_drawing (first_state seed)).0
 
 abbrev pub term_text : DrawnTerm → List ℕ
 term_text t = decimal t.coefficient ++ codes ":1:" ++ decimal t.v

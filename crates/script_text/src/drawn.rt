@@ -11,7 +11,9 @@ pub struct DrawnTerm {
 #[derive(Clone, Copy, Debug, PartialEq, Eq)]
 pub enum DrawnCommand {
     /// The normal form of (1:v).
-    Normal { v: u32 },
+    Normal {
+        v: u32,
+    },
     /// The coordinates of two terms.
     Reduce {
         first: DrawnTerm,
@@ -24,7 +26,9 @@ pub enum DrawnCommand {
         second: Option<DrawnTerm>,
     },
     /// The coordinates of star of a term.
-    Star { term: DrawnTerm },
+    Star {
+        term: DrawnTerm,
+    },
     /// The boundary of two terms.
     Boundary {
         first: DrawnTerm,
@@ -33,5 +37,8 @@ pub enum DrawnCommand {
     /// The newest splitting.
     Show,
     /// A split by the operator less the constant.
-    Split { op: OpName, constant: u32 },
+    Split {
+        op: OpName,
+        constant: u32,
+    },
 }

@@ -1,6 +1,7 @@
 //! Scripts as users write them: a text is read into its space and its sessions of
 //! command lines, and a line into its command. Both are exact, for what is accepted
-//! and for what is refused.
+//! and for what is refused. A script is made from a number too, by draws that anyone
+//! can repeat.
 #![tactic(auto)]
 
 mod command;
@@ -8,6 +9,7 @@ mod command_fault;
 mod drawn;
 mod draws;
 mod fields;
+mod generation;
 mod items;
 mod kind;
 mod laws;
@@ -40,5 +42,7 @@ pub use space::SpaceLine;
 pub use term::Term;
 pub use word::Word;
 
+#[cfg(test)]
+mod generated_tests;
 #[cfg(test)]
 mod tests;
