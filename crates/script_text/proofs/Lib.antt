@@ -1,4 +1,7 @@
 pub mod DrawLemmas
+pub mod DrawnFits
+pub mod DrawnLines
+pub mod DrawnTexts
 pub mod FormLemmas
 pub mod GeneratedLemmas
 pub mod GenerationLemmas

@@ -9,3 +9,4 @@ pub mod Limits
 pub mod Commands
 pub mod Walk
 pub mod Draws
+pub mod DrawnCommands

@@ -7,6 +7,7 @@
 mod command;
 mod command_fault;
 mod drawn;
+mod drawn_laws;
 mod draws;
 mod fields;
 mod generation;
@@ -28,6 +29,7 @@ mod word;
 pub use command::{Command, parse_command};
 pub use command_fault::{CommandFault, LimitWord};
 pub use drawn::{DrawnCommand, DrawnTerm};
+pub use drawn_laws::{drawn_commands_fit, drawn_lines_are_read};
 pub use draws::Draws;
 pub use items::{Integers, Items, Terms};
 pub use kind::Kind;
