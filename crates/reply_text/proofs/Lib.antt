@@ -7,6 +7,8 @@ pub mod Machine
 pub mod NumberTexts
 pub mod States
 pub mod StepLemmas
+pub mod SummaryLemmas
+pub mod SummaryTexts
 pub mod TextFormat
 pub mod TextReads
 pub mod TranscriptReads

@@ -8,7 +8,8 @@ use Rattle.text_lines.specs.Lines.{parts, joined}
 use Rattle.text_lines.proofs.PartLemmas.{parts-joined, parts-cons}
 use Rattle.op_polynomials.specs.declared.name.OpName.{OpName}
 use Rattle.op_polynomials.specs.declared.name.OpName.TheVariants as ops
-use Rattle.reply_text.specs.Texts.{operator_text, coefficients_text, reply_text}
+use Rattle.script_text.specs.Draws.{operator_text}
+use Rattle.reply_text.specs.Texts.{coefficients_text, reply_text}
 use Rattle.reply_text.specs.Transcripts.{reply_line}
 use Rattle.reply_text.specs.declared.transcript.ReplyLine.{ReplyLine}
 use Rattle.reply_text.specs.declared.word.Word.{Word}

@@ -15,7 +15,8 @@ use Rattle.reply_text.specs.declared.word.Word.{Word}
 use Rattle.reply_text.specs.declared.word.Word.TheVariants as words
 use Rattle.reply_text.specs.declared.lexeme.Lexeme.{Lexeme}
 use Rattle.reply_text.specs.declared.lexeme.Lexeme.TheVariants as lexs
-use Rattle.reply_text.specs.Texts.{numbers, symbol_text, symbols, pair_text, pairs, operator_text, operators, rows_text, refusal_text, reply_text}
+use Rattle.script_text.specs.Draws.{operator_text}
+use Rattle.reply_text.specs.Texts.{numbers, symbol_text, symbols, pair_text, pairs, operators, rows_text, refusal_text, reply_text}
 use Rattle.reply_text.specs.Lexemes.{word_text, spell}
 use Rattle.reply_text.specs.Wordings.{operator_lexeme, number_lexemes, symbol_lexemes, pair_lexemes, operator_lexemes, later_rows, row_lexemes, refusal_lexemes, reply_lexemes, spaced_text}
 

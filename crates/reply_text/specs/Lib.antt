@@ -7,6 +7,7 @@ pub mod Pieces
 pub mod Rules
 pub mod Sections
 pub mod Steps
+pub mod Summaries
 pub mod Texts
 pub mod Transcripts
 pub mod Wordings

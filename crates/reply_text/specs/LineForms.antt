@@ -19,7 +19,8 @@
 use Rattle.std.specs.Prelude.{ℕ, ◌^◌, Bool, true, false, List, [], ◌∷◌, ◌++◌, map, codes, decimal, Option, Some, None, ◌==◌, ◌&&◌, nat_lt}
 use Rattle.std.specs.List.{list_all}
 use Rattle.text_lines.specs.Lines.{parts}
-use Rattle.reply_text.specs.Texts.{operator_text, coefficients_text}
+use Rattle.script_text.specs.Draws.{operator_text}
+use Rattle.reply_text.specs.Texts.{coefficients_text}
 use Rattle.reply_text.specs.Transcripts.{reply_line}
 use Rattle.reply_text.specs.declared.reply.Reply.{Reply}
 use Rattle.reply_text.specs.declared.transcript.ReplyLine.{ReplyLine}

@@ -3,7 +3,8 @@
 use Rattle.std.specs.Prelude.{ℕ, List, decimal}
 use Rattle.reply_text.specs.declared.part.Part.{Part}
 use Rattle.reply_text.specs.declared.part.Part.TheVariants as parts
-use Rattle.reply_text.specs.Texts.{numbers, symbol_text, symbols, pairs, operator_text, operators, rows_text, coefficients_text}
+use Rattle.script_text.specs.Draws.{operator_text}
+use Rattle.reply_text.specs.Texts.{numbers, symbol_text, symbols, pairs, operators, rows_text, coefficients_text}
 
 abbrev pub part_text : Part → List ℕ
 part_text (parts.Word bytes) = bytes.now

@@ -1,5 +1,6 @@
 ghost use Rattle.std.specs.Prelude.{decimal};
-ghost use Rattle.reply_text.specs.Texts.{numbers, symbol_text, pair_text, operator_text};
+ghost use Rattle.script_text.specs.Draws.{operator_text};
+ghost use Rattle.reply_text.specs.Texts.{numbers, symbol_text, pair_text};
 
 use crate::put::{Piece, Put, put_all, put_each};
 use field_table::Residues;

@@ -2,8 +2,8 @@ ghost use Rattle.std.specs.Prelude.{◌<◌, ◌^◌, ◌-◌, length};
 
 use crate::{
     History, Operators, Pairs, Piece, Points, Refusal, Reply, ReplyLine, Rows, SessionReplies,
-    Sessions, Transcript, TranscriptFault, put_separated, read_transcript, write_text,
-    write_transcript,
+    Sessions, Transcript, TranscriptFault, put_separated, read_transcript, write_summary,
+    write_text, write_transcript,
 };
 use field_table::{Field, Residues};
 use op_polynomials::{OpName, Poly, SplitEntry};
@@ -193,6 +193,45 @@ fn pieces(rt: HostRuntime) -> Result<(), Fail> {
     put_separated(&mut buffer, &mut sink, b",", &pieces)?;
     buffer.flush(&mut sink)?;
     assert!(rt; sink.bytes() == b"0,-,12".as_slice());
+    Ok(())
+}
+
+// Some replies to the first commands of two sessions that the number 0 draws: reduce, show and image, and image, star
+// and image.
+fn of_draws(alloc: Global) -> Result<Transcript, Fail> {
+    let mut first = Vec::new(alloc);
+    let values = residues(alloc, &[7, 8])?;
+    first.push(line(1, 0, Reply::Coords { values }))?;
+    first.push(line(2, 0, Reply::Memory))?;
+    let values = residues(alloc, &[1, 2, 100])?;
+    first.push(line(3, 0, Reply::Coords { values }))?;
+    let mut second = Vec::new(alloc);
+    let values = residues(alloc, &[u32::MAX, 1])?;
+    second.push(line(1, 0, Reply::Coords { values }))?;
+    let values = residues(alloc, &[5])?;
+    second.push(line(2, 0, Reply::Coords { values }))?;
+    second.push(refused(3, Refusal::NotSymbol { term: 1 }))?;
+    let mut sessions = Vec::new(alloc);
+    sessions.push(SessionReplies::of(first))?;
+    sessions.push(SessionReplies::of(second))?;
+    Ok(Transcript {
+        modulus: 11,
+        characteristic: 101,
+        symbols: 12,
+        sessions: Sessions::of(sessions),
+        history: History::of(Vec::new(alloc)),
+        columns: 7,
+    })
+}
+
+#[test]
+fn summaries(rt: HostRuntime) -> Result<(), Fail> {
+    let t = of_draws(rt.alloc())?;
+    let mut sink = MemSink::new(rt.alloc(), 200, 64, Vec::new(rt.alloc()))?;
+    write_summary(0, &t, &mut sink)?;
+    let text =
+        b"generated 0\nspace 11 101 symbols 12 sessions 2 commands 6\nok 4 memory 1 versions 0 columns 7\nsum 4294967399\nend\n".as_slice();
+    assert!(rt; sink.bytes() == text);
     Ok(())
 }
 
