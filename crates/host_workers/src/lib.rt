@@ -1,9 +1,11 @@
-//! The host: it reads a script, works out the reply to each command and writes the transcript. `run` is the
-//! top call, with the words of the command line, the input and the output handed in, and carries the
-//! promise that the bytes written are the transcript of the bytes read.
+//! The host: it reads a script, works out the reply to each command and writes the transcript; or it makes a
+//! script from a number, and writes a summary. `run` is the top call, with the words of the command line, the
+//! input and the output handed in, and carries the promise that the bytes written are the transcript of the
+//! bytes read, or the summary of a run of the script of the number.
 #![tactic(auto)]
 
 mod gathering;
+mod generation;
 mod host;
 mod laws;
 mod reading;
@@ -17,6 +19,7 @@ mod status;
 mod tests;
 mod top;
 mod transcript;
+mod words;
 mod work;
 
 pub use column_flight::{Gate, GatePoint, NoGate};

@@ -176,6 +176,23 @@ fn other_words_read_nothing(rt: HostRuntime) -> Result<(), Fail> {
     Ok(())
 }
 
+// So is the word `gen` without one number below 2 to the 64.
+#[test]
+fn other_numbers_read_nothing(rt: HostRuntime) -> Result<(), Fail> {
+    let alloc = rt.alloc();
+    assert!(rt; are_refused(&rt, alloc, &["gen", "1", "2"])?);
+    for number in [
+        "",
+        "x",
+        "-1",
+        "99999999999999999999",
+        "18446744073709551616",
+    ] {
+        assert!(rt; are_refused(&rt, alloc, &["gen", number])?);
+    }
+    Ok(())
+}
+
 // A script of one image of so many terms, each the symbol (0:1).
 fn image_script(alloc: Global, terms: u32) -> Result<Vec<u8>, Fail> {
     let mut script = b"space 11 101\nsession\nimage 2".to_vec(alloc)?;

@@ -8,8 +8,15 @@ ghost use Rattle.sym_io.specs.Writing.{AppendsPart};
 ghost use Rattle.script_text.specs.Draws.{drawn_command, times};
 ghost use Rattle.reply_text.specs.Rules.{replies_of};
 ghost use Rattle.reply_text.specs.Summaries.{
-    is_ok, is_memory, count_replies, coordinate_sum, image_coordinates, answer_sum, session_sum,
-    image_sum, summary_text,
+  is_ok,
+  is_memory,
+  count_replies,
+  coordinate_sum,
+  image_coordinates,
+  answer_sum,
+  session_sum,
+  image_sum,
+  summary_text,
 };
 
 use crate::put::{Piece, Put, put_all};
@@ -20,6 +27,7 @@ use sym_io::{Failed, OutputBuffer, Sink};
 
 // The sessions of a drawn script, and the commands of each.
 const SESSIONS: usize = 4;
+
 const COMMANDS: usize = 40;
 
 // Whether the reply begins with ok.
