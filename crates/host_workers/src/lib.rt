@@ -27,6 +27,7 @@ pub use host::run_host;
 pub use laws::{limits, shared_runs_are_legal};
 pub use session::run_session;
 pub use sessions::run_sessions;
+pub use shared_core::{Act, CoreRun, CoreStep, EventFault, Outcome, run_events};
 pub use solo::run_solo;
 pub use status::{MAX_INPUT, Status};
 pub use top::run;
