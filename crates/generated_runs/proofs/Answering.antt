@@ -105,7 +105,8 @@ module _ (g : Ground) (prime : IsPrime g.characteristic) (v : ℕ) (s : Decompos
   plain_answer (commands.Chains n) keeps agrees h = ap is_ok h
 
   -- so is what a line is read as
-  reading_answer : (reading : Result Command CommandFault) → ((op : OpName) → Contains (read_operators named_operator reading) op → KeepsCongruence g op)
+  reading_answer : (reading : Result Command CommandFault)
+      → ((op : OpName) → Contains (read_operators named_operator reading) op → KeepsCongruence g op)
       → ((op : OpName) → Contains (read_operators split_operator reading) op → (columns : List (List ℕ)) → IsOperatorMatrix g op columns
       → AgreesWithListed s columns)
       → IsAnswerTo g v s reading reply → is_ok reply ≡ true
@@ -153,7 +154,8 @@ module _ (script : ScriptText) (t : Transcript) (listed : IsListed script.space.
   has_reply : (s c : ℕ) (line : NumberedLine) (r : ReplyLine) → IsAnsweredBy script t s c line r → r.reply ≢ replies.Memory
   has_reply s c line r h =
       all_there (λ (q : ReplyLine). q.reply ≢ replies.Memory) h.told c r
-      (all_there (λ (told : List ReplyLine). All (λ (q : ReplyLine). q.reply ≢ replies.Memory) told) t.sessions s h.told some h.session_told) h.command_told
+      (all_there (λ (told : List ReplyLine). All (λ (q : ReplyLine). q.reply ≢ replies.Memory) told) t.sessions s h.told some
+      h.session_told) h.command_told
 
   -- the operators of a line keep congruence
   line_keeps : (s c : ℕ) (line : NumberedLine) (r : ReplyLine) → IsAnsweredBy script t s c line r → (op : OpName)
@@ -173,7 +175,8 @@ module _ (script : ScriptText) (t : Transcript) (listed : IsListed script.space.
   line_plain : (s c : ℕ) (line : NumberedLine) (r : ReplyLine) → IsAnsweredBy script t s c line r → is_ok r.reply ≡ true
   line_plain s c line r h =
       let x = line_answered script t fits legal s c line r h (has_reply s c line r h) in
-      reading_answer setting (listed_prime setting.characteristic listed) (length (take r.version t.history)) x.splitting r.reply (command_of line.text)
+      reading_answer setting (listed_prime setting.characteristic listed) (length (take r.version t.history)) x.splitting r.reply
+      (command_of line.text)
       (line_keeps s c line r h) (line_agrees s c line r h x) x.answer
 
   pub all_plain : All (All (λ (r : ReplyLine). is_ok r.reply ≡ true)) t.sessions
@@ -184,8 +187,10 @@ module _ (script : ScriptText) (t : Transcript) (listed : IsListed script.space.
   all_accepted s c line r op coefficients h reads =
       let x = line_answered script t fits legal s c line r h (has_reply s c line r h) in
       split_accepted setting (listed_prime setting.characteristic listed) (length (take r.version t.history)) x.splitting r.reply op coefficients
-      (subst (λ reading. (o : OpName) → Contains (read_operators named_operator reading) o → KeepsCongruence setting o) reads (line_keeps s c line r h))
-      (subst (λ reading. (o : OpName) → Contains (read_operators split_operator reading) o → (columns : List (List ℕ)) → IsOperatorMatrix setting o columns
+      (subst (λ reading. (o : OpName) → Contains (read_operators named_operator reading) o → KeepsCongruence setting o) reads
+      (line_keeps s c line r h))
+      (subst (λ reading. (o : OpName) → Contains (read_operators split_operator reading) o → (columns : List (List ℕ))
+      → IsOperatorMatrix setting o columns
       → AgreesWithListed x.splitting columns) reads (line_agrees s c line r h x))
       (subst (λ reading. IsAnswerTo setting (length (take r.version t.history)) x.splitting reading r.reply) reads x.answer)
 

@@ -27,7 +27,8 @@ commute_agrees p a o size h j l i k =
     ∙ ap (apply (dense_rows p o)) (sym (column_image p a j l)))
 
 -- so the matrix of an operator agrees with each that a version lists, where it commutes with those of the entries
-pub agrees_with_listed : (g : Ground) (entries : List SplitEntry) (s : Decomposition) → IsVersion g entries s → (op : OpName) (columns : List (List ℕ))
+pub agrees_with_listed : (g : Ground) (entries : List SplitEntry) (s : Decomposition) → IsVersion g entries s
+    → (op : OpName) (columns : List (List ℕ))
     → IsOperatorMatrix g op columns → ((other : OpName) → Contains (operators entries) other → HaveCommutingMatrices g op other)
     → AgreesWithListed s columns
 agrees_with_listed g entries s version op columns is commute = record { agree = agree }

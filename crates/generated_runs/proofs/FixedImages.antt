@@ -45,8 +45,8 @@ answered_at g history text reply unrefused few h = record {
 }
 
 -- so each line of a script that fits is answered, but for want of memory
-pub line_answered : (script : ScriptText) (t : Transcript) → Fits script → IsLegalTranscript script t → (s c : ℕ) (line : NumberedLine) (r : ReplyLine)
-    → IsAnsweredBy script t s c line r → r.reply ≢ replies.Memory
+pub line_answered : (script : ScriptText) (t : Transcript) → Fits script → IsLegalTranscript script t
+    → (s c : ℕ) (line : NumberedLine) (r : ReplyLine) → IsAnsweredBy script t s c line r → r.reply ≢ replies.Memory
     → AnsweredAt (script_ground script) (take r.version t.history) line.text r.reply
 line_answered script t fits legal s c line r h some = by_reply told.reply
   where
@@ -62,7 +62,8 @@ line_answered script t fits legal s c line r h some = by_reply told.reply
     unrefused : IsUnrefused (script_ground script) line.text
     unrefused =
         all_there (λ (l : NumberedLine). IsUnrefused (script_ground script) l.text) h.lines c line
-        (all_there (All (λ (l : NumberedLine). IsUnrefused (script_ground script) l.text)) script.sessions s h.lines fits.unrefused h.session) h.command
+        (all_there (All (λ (l : NumberedLine). IsUnrefused (script_ground script) l.text)) script.sessions s h.lines fits.unrefused
+        h.session) h.command
 
     by_reply : IsReply (script_ground script) (take r.version t.history) line.text r.reply ⊎ (r.reply ≡ replies.Memory)
         → AnsweredAt (script_ground script) (take r.version t.history) line.text r.reply

@@ -5,3 +5,6 @@ pub mod Histories
 pub mod FixedImages
 pub mod Commuting
 pub mod Answering
+pub mod DrawnRefusals
+pub mod DrawnScripts
+pub mod Summaries

@@ -1,3 +1,4 @@
 pub mod Splits
 pub mod Unrefused
 pub mod FixedRuns
+pub mod GeneratedRuns

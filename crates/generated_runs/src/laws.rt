@@ -1,4 +1,5 @@
 ghost use Rattle.generated_runs.specs.FixedRuns.{AllAreAnswered, HistoriesAreShort, ImagesAreFixed, NoHistoryIsFull, SplitsFillHistories};
+ghost use Rattle.generated_runs.specs.GeneratedRuns.{FiguresAreFixed, GeneratedScriptsFit, SumsAreFixed, SummariesAreFixed};
 
 /// In a legal transcript the history has no more entries than the script has splits, since each entry is that of an accepted
 /// split. So the history is not full where the script has fewer commands than a history has room for.
@@ -23,4 +24,18 @@ pub fn images_are_fixed()
 /// distinct pairs that its commands demand.
 pub fn all_are_answered()
     ensures law { AllAreAnswered }
+{}
+
+/// Nothing refuses a command of a script that is made from a number, and it has fewer commands than a history has room for. So
+/// of two legal runs of it without want of memory the coordinates of images have one sum.
+pub fn generated_images_are_fixed()
+    ensures fit { GeneratedScriptsFit }
+    ensures sums { SumsAreFixed }
+{}
+
+/// Where its operators agree too, the counts of such a run are those of its drawing, and the summary is a function of the
+/// number: two legal runs have one summary, whatever hosts made them.
+pub fn generated_summaries_are_fixed()
+    ensures figures { FiguresAreFixed }
+    ensures summaries { SummariesAreFixed }
 {}

@@ -4,4 +4,7 @@
 
 mod laws;
 
-pub use laws::{all_are_answered, histories_are_short, images_are_fixed, splits_fill_histories};
+pub use laws::{
+    all_are_answered, generated_images_are_fixed, generated_summaries_are_fixed,
+    histories_are_short, images_are_fixed, splits_fill_histories,
+};
