@@ -1,10 +1,7 @@
 -- The lines that a session has answered so far, over the accepted splits that its pass has seen.
-use Rattle.std.proofs.Common.{◌≡◌, ◌⊎◌, inl, inr, ℕ, zero, suc, ◌+◌, ◌<◌, ◌≤◌, List, [], ◌∷◌, ◌++◌, length, length-append, take, AllPairs, None, Some, get_or, slice_get, refl, sym, ◌∙◌, ap, subst, arith}
+use Rattle.std.proofs.Common.{◌≡◌, ◌⊎◌, inl, inr, ℕ, zero, suc, ◌+◌, ◌<◌, ◌≤◌, List, [], ◌∷◌, ◌++◌, length, length-append, take, Some, get_or, slice_get, refl, sym, ◌∙◌, ap, subst, arith}
 use Rattle.std.specs.List.{AllZip, enumerate_from}
-use Rattle.std.proofs.lemmas.Bool.{cases_lt}
 use Rattle.std.proofs.lemmas.List.{take_all, take_more, length-take}
-use Rattle.std.proofs.lemmas.List.Elements.{length_all_zip}
-use Rattle.std.proofs.lemmas.List.FromFn.{length-enumerate_from}
 use Rattle.std.proofs.lemmas.List.Quantifiers.{all_pairs_push}
 use Rattle.std.proofs.lemmas.Option.{same_Some, slice_get_within, slice_get-get_or}
 use mathlib.Core.List.{IsPrefix}
@@ -14,13 +11,13 @@ use Rattle.script_text.specs.Numbered.{NumberedLine}
 use Rattle.reply_text.specs.declared.reply.Reply.TheVariants as replies
 use Rattle.reply_text.specs.declared.transcript.ReplyLine.{ReplyLine}
 use Rattle.session_core.specs.Replies.{IsReply, IsAccepted}
-use Rattle.session_core.specs.SoloRuns.{IsHistoryAfter, grown, unchanged, Answers}
+use Rattle.session_core.specs.SoloRuns.{IsHistoryAfter, grown, unchanged}
 use Rattle.session_core.specs.Transcripts.{IsReplyLine, Follows, IsEntry, EntersHistory}
 use Rattle.session_core.proofs.RunLemmas.{Continues, after_continues, after_accepted, Continues-length, get-append_left, get-append_seam, numbered-push, zip_weaken, zip-push}
 use Rattle.host_workers.specs.Workers.{AnswersSession}
 use Rattle.host_workers.specs.Sessions.{AnswersLine, GoesOn}
 use Rattle.split_versions.specs.Histories.{maker_of}
-use Rattle.host_workers.proofs.GoingOn.{prefix_refl, prefix_trans, prefix-length, prefix_get, prefix_take, prefix_whole}
+use Rattle.host_workers.proofs.GoingOn.{prefix_trans, prefix-length, prefix_get, prefix_take, prefix_whole}
 
 -- lines that were answered, where the session has learnt or committed so many splits
 pub record HasAnswered (g : Ground) (s : ℕ) (lines : List NumberedLine) (told : List ReplyLine) (known : ℕ) (entries : List SplitEntry) : Type 0 where

@@ -1,5 +1,5 @@
 -- A shared run, from what its works leave and from the closing of its boards.
-use Rattle.std.proofs.Common.{◌≡◌, ℕ, ◌+◌, ◌<◌, ◌≤◌, List, [], ◌∷◌, ◌++◌, Some, length, get_or, map, refl, sym, ◌∙◌, ap, subst, arith}
+use Rattle.std.proofs.Common.{◌≡◌, ℕ, ◌≤◌, List, [], ◌∷◌, Some, length, get_or, map, refl, sym, ◌∙◌, subst, arith}
 use Rattle.std.specs.Prelude.{◌==◌, All, slice_get, true}
 use Rattle.std.specs.List.{AllZip, enumerate_from, range_with_len}
 use mathlib.Core.List.{IsPrefix}
@@ -19,7 +19,6 @@ use Rattle.script_text.specs.declared.limits.TheConstants.{MAX_COMMANDS}
 use Rattle.script_text.specs.Valid.{ScriptText, command_count}
 use Rattle.reply_text.specs.declared.transcript.ReplyLine.{ReplyLine}
 use Rattle.column_flight.specs.declared.event.FlightEvent.{FlightEvent}
-use Rattle.column_flight.specs.Flights.{maker_of}
 use Rattle.column_flight.specs.Shared.{board_of as flights_board, setting_of as flights_setting}
 use Rattle.split_versions.specs.Shared.{board_of as versions_board, setting_of as versions_setting}
 use Rattle.session_core.specs.Transcripts.{script_ground}
@@ -29,7 +28,7 @@ use Rattle.host_workers.specs.declared.work.SharedRun.{SharedRun}
 use Rattle.host_workers.specs.Workers.{IsWork}
 use Rattle.host_workers.specs.Works.{HasRoom, HasWorked, IsDone, IsSharedRun, MayWork}
 use Rattle.host_workers.proofs.PassLists.{maker_within}
-use Rattle.host_workers.proofs.WorkLists.{AreClosed, all_done, all_works, idle_after, may_work}
+use Rattle.host_workers.proofs.WorkLists.{AreClosed, all_works, idle_after, may_work}
 
 -- the passes of works that were done, in order
 pub columns_idle : (script : ScriptText) (board : SpaceBoards) (numbers : List ℕ) (old new : List SessionWork)

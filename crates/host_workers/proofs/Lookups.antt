@@ -1,5 +1,5 @@
 -- Columns that a session gets from the flights, one after another.
-use Rattle.std.proofs.Common.{◌≡◌, ◌≢◌, ◌⊎◌, inl, inr, ℕ, suc, ◌+◌, ◌<◌, Bool, true, false, nat_eq, ◌&&◌, List, [], ◌∷◌, ◌++◌, length, get_or, take, drop, map, All, Option, Some, IfSome, Result, Ok, Err, IfOk, OnOk, slice_get, refl, sym, ◌∙◌, ap, subst, arith, append-nil}
+use Rattle.std.proofs.Common.{◌≡◌, ◌≢◌, ◌⊎◌, inl, inr, ℕ, ◌+◌, ◌<◌, Bool, true, false, nat_eq, ◌&&◌, List, [], ◌∷◌, ◌++◌, length, get_or, map, All, Option, Some, IfSome, Result, Ok, Err, IfOk, OnOk, slice_get, refl, sym, ◌∙◌, ap, subst, arith, append-nil}
 use Rattle.std.specs.Arc.{arc_value}
 use Rattle.std.specs.declared.sync.Arc.{Arc}
 use Rattle.std.specs.declared.cmp.PartialEq.{Ghosts as Equality}
@@ -27,11 +27,11 @@ use Rattle.session_core.specs.declared.demand.Demand.{Demand}
 use Rattle.session_core.specs.declared.demand.Demand.TheVariants as demands
 use Rattle.session_core.specs.Demands.{is_pair, Has, HasAll, ServesDemand, symbol_pairs}
 use Rattle.session_core.proofs.DemandLemmas.{Has-symbol}
-use Rattle.session_core.proofs.PairLemmas.{Has-append_left, Has-append_right, Has-from_append, Has-it, Has-nil, Has-one, HasAll-append, HasAll-one}
+use Rattle.session_core.proofs.PairLemmas.{Has-append_left, Has-append_right, Has-from_append, Has-it, Has-nil, HasAll-append, HasAll-one}
 use Rattle.host_workers.specs.Workers.{pair_of, published_pairs}
 use Rattle.host_workers.specs.Lookups.{IsLookup, found_pairs}
 use Rattle.host_workers.specs.Sessions.{Flies, MayFly}
-use Rattle.host_workers.proofs.FlownLines.{Flies_trans, Flies_weaken, event_pair, pair_published, published_later}
+use Rattle.host_workers.proofs.FlownLines.{Flies_trans, Flies_weaken, pair_published, published_later}
 
 -- ---- lists of pairs
 -- what two lists hold, they hold with more between them

@@ -1,11 +1,10 @@
 -- Passes in the order of their numbers.
-use Rattle.std.proofs.Common.{zero, suc, ◌≡◌, ℕ, ◌+◌, ◌<◌, ◌≤◌, List, [], ◌∷◌, Some, length, get_or, refl, sym, ◌∙◌, ap, subst, arith}
+use Rattle.std.proofs.Common.{zero, suc, ◌≡◌, ℕ, ◌+◌, ◌<◌, ◌≤◌, List, [], ◌∷◌, Some, refl, sym, ◌∙◌, ap, subst, arith}
 use Rattle.std.specs.Prelude.{All, false, slice_get}
-use Rattle.std.specs.List.{AllByRecursion, AllZip, Any, range_with_len}
+use Rattle.std.specs.List.{AllByRecursion, AllZip, range_with_len}
 use Rattle.std.specs.declared.cmp.PartialEq.{Ghosts as Equality}
 use Rattle.std.proofs.lemmas.List.Elements.{All-from_recursion}
-use Rattle.std.proofs.lemmas.Option.{get_or_from_slice_get, slice_get-get_or, slice_get_within}
-use mathlib.Core.List.{IsPrefix}
+use Rattle.std.proofs.lemmas.Option.{slice_get-get_or}
 use Rattle.turn_board.specs.declared.kept.Kept.{Ghosts}
 use Rattle.turn_board.specs.declared.board.Board.{Board}
 use Rattle.turn_board.specs.declared.pass.Pass.{Pass}

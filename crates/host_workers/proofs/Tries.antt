@@ -1,8 +1,7 @@
 -- What one try of a command line leaves.
-use Rattle.std.proofs.Common.{◌≡◌, ◌⊎◌, inl, inr, ℕ, ◌+◌, ◌<◌, ◌≤◌, ◌==◌, Bool, true, false, nat_lt, ltb-true, if◌then◌else◌, List, [], ◌∷◌, ◌++◌, length, length-append, take, Option, Some, None, Result, Ok, Err, IfOk, slice_get, refl, sym, ◌∙◌, ap, subst, arith}
+use Rattle.std.proofs.Common.{◌≡◌, ◌⊎◌, inl, inr, ℕ, ◌+◌, ◌<◌, ◌≤◌, ◌==◌, Bool, true, false, nat_lt, ltb-true, if◌then◌else◌, List, [], ◌∷◌, ◌++◌, length, length-append, take, Option, Some, None, Result, Ok, Err, refl, sym, ◌∙◌, ap, subst, arith}
 use Rattle.std.specs.declared.cmp.PartialEq.{Ghosts as Equality}
 use Rattle.std.proofs.lemmas.List.{length-take}
-use mathlib.Core.List.{IsPrefix}
 use Rattle.quotient_coords.specs.Quotient.{Ground}
 use Rattle.op_polynomials.specs.declared.entry.SplitEntry.{SplitEntry}
 use Rattle.op_polynomials.specs.declared.name.OpName.{OpName}
@@ -23,7 +22,7 @@ use Rattle.session_core.specs.declared.outcome.Finish.{Finish}
 use Rattle.session_core.specs.declared.outcome.Finish.TheVariants as outcomes
 use Rattle.session_core.specs.declared.demand.Demand.{Demand}
 use Rattle.session_core.specs.Demands.{Adds, Has, HasAll, IsDemand, demand, demand_pairs, line_demand}
-use Rattle.session_core.specs.Replies.{FinishesLine, IsAccepted}
+use Rattle.session_core.specs.Replies.{FinishesLine}
 use Rattle.session_core.specs.SoloRuns.{Answers, unchanged}
 use Rattle.session_core.proofs.HostLemmas.{IsAcceptedSplit, accepted_split, accepted_line, accepted_version, plain_line}
 use Rattle.session_core.proofs.DemandLemmas.{Adds-demand, HasAll-demand}

@@ -1,5 +1,5 @@
 -- The works of sessions, in the order of the sessions.
-use Rattle.std.proofs.Common.{zero, suc, ◌≡◌, ℕ, ◌+◌, ◌<◌, ◌≤◌, List, [], ◌∷◌, Some, length, get_or, map, refl, sym, ◌∙◌, ap, subst, arith}
+use Rattle.std.proofs.Common.{zero, suc, ◌≡◌, ℕ, ◌+◌, ◌≤◌, List, [], ◌∷◌, Some, length, map, sym, ◌∙◌, ap, subst}
 use Rattle.std.specs.Prelude.{All, false, slice_get}
 use Rattle.std.specs.List.{AllByRecursion, AllZip, enumerate_from, range_with_len}
 use Rattle.std.specs.declared.cmp.PartialEq.{Ghosts as Equality}
@@ -15,16 +15,15 @@ use Rattle.op_polynomials.specs.declared.entry.SplitEntry.{SplitEntry}
 use Rattle.script_text.specs.declared.limits.TheConstants.{MAX_COMMANDS}
 use Rattle.script_text.specs.Numbered.{NumberedLine}
 use Rattle.script_text.specs.Valid.{ScriptText}
-use Rattle.reply_text.specs.declared.transcript.ReplyLine.{ReplyLine}
 use Rattle.column_flight.specs.declared.event.FlightEvent.{FlightEvent}
-use Rattle.column_flight.specs.Flights.{FlightHistory, maker_of}
+use Rattle.column_flight.specs.Flights.{FlightHistory}
 use Rattle.column_flight.specs.Shared.{board_of as flights_board, setting_of as flights_setting}
 use Rattle.split_versions.specs.Histories.{VersionHistory}
 use Rattle.split_versions.specs.Shared.{board_of as versions_board, setting_of as versions_setting}
 use Rattle.host_workers.specs.declared.work.SpaceBoards.{SpaceBoards}
 use Rattle.host_workers.specs.declared.work.SessionWork.{SessionWork}
 use Rattle.host_workers.specs.Workers.{AnswersSession, FliesSession, IsWork}
-use Rattle.host_workers.specs.Works.{HasRoom, HasWorked, IsAt, IsDone, MayWork, session_of}
+use Rattle.host_workers.specs.Works.{HasRoom, HasWorked, IsDone, MayWork, session_of}
 use Rattle.host_workers.proofs.PassLists.{idle_on, new_idle, owned}
 use Rattle.host_workers.proofs.Tails.{IsTail, tail_head, tail_next, tail_whole}
 

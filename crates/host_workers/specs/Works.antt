@@ -14,7 +14,7 @@
 --                                 event names a session
 use Rattle.std.specs.Prelude.{◌≡◌, ℕ, ◌+◌, ◌≤◌, List, [], length, Some, false, slice_get, vec_capacity}
 use Rattle.std.specs.List.{AllZip, enumerate_from}
-use Rattle.turn_board.specs.Passes.{Continues, IsIdle, IsOf, view}
+use Rattle.turn_board.specs.Passes.{Continues, IsOf, view}
 use Rattle.quotient_coords.specs.Quotient.{Ground}
 use Rattle.op_polynomials.specs.declared.entry.SplitEntry.{SplitEntry}
 use Rattle.script_text.specs.declared.limits.TheConstants.{MAX_COMMANDS}

@@ -1,12 +1,12 @@
 -- Choices one after another, and the lines of what they choose.
-use Rattle.std.proofs.Common.{◌≡◌, ℕ, zero, suc, ◌+◌, ◌*◌, ◌-◌, ◌<◌, ◌≤◌, Bool, true, false, cond, if◌then◌else◌, List, [], ◌∷◌, ◌++◌, map, length, get_or, filter, nat_eq, refl, sym, ap, ◌∙◌, arith, add-zero, add-one, inl, inr}
+use Rattle.std.proofs.Common.{◌≡◌, ℕ, zero, suc, ◌+◌, false, List, [], ◌∷◌, ◌++◌, map, length, get_or, filter, nat_eq, refl, ap, ◌∙◌, arith, add-one}
 use Rattle.std.specs.List.{All, AllZip, sum_by, range_with_len}
 use Rattle.std.proofs.lemmas.List.{length-map}
 use Rattle.std.proofs.lemmas.List.Elements.{All-cons}
 use Rattle.std.proofs.lemmas.List.Sums.{sum_by-cons}
 use Rattle.p1_normal.specs.Units.{gcd}
 use Rattle.script_text.specs.Numbered.{NumberedLine}
-use Rattle.script_text.specs.Draws.{Choice, times, pick, index_from, command_of_kind, drawn_command, numbered_from, blocks_from}
+use Rattle.script_text.specs.Draws.{Choice, times, pick, command_of_kind, drawn_command, numbered_from, blocks_from}
 
 pub times-none : {A : Type 0} (choice : Choice A) (state : ℕ) → times 0 choice state ≡ ([], state)
 unfolding times

@@ -1,13 +1,11 @@
 -- What every drawn script keeps.
-use Rattle.std.proofs.Common.{◌≡◌, ℕ, ◌+◌, ◌*◌, ◌%◌, ◌<◌, ◌≤◌, true, List, length, get_or, map, nat_eq, refl, sym, ap, ◌∙◌, arith, eq-eqb}
-use Rattle.std.specs.List.{All, AllZip, list_any}
+use Rattle.std.proofs.Common.{◌≡◌, ℕ, ◌<◌, ◌≤◌, true, List, length, get_or, nat_eq, refl, sym, ◌∙◌, arith, eq-eqb}
 use Rattle.std.proofs.lemmas.List.Folds.{list_any_at}
 use Rattle.std.proofs.lemmas.Slice.Zip.{AllZip-long}
 use Rattle.field_table.specs.declared.table.TheConstants.{CHARACTERISTICS}
 use Rattle.field_table.specs.Table.{IsListed}
 use Rattle.script_text.specs.declared.drawn.DrawnCommand.{DrawnCommand}
 use Rattle.script_text.specs.declared.space.SpaceLine.{SpaceLine}
-use Rattle.script_text.specs.Numbered.{NumberedLine}
 use Rattle.script_text.specs.Valid.{IsSpace}
 use Rattle.script_text.specs.Draws.{first_state, times, pick, drawn_command, drawn_text, drawn_space, drawing, generated, HasFourSessions}
 use Rattle.script_text.proofs.DrawLemmas.{length-times, All-times, AllZip-blocks}

@@ -1,5 +1,5 @@
 -- The sessions of a drawn script, one after another.
-use Rattle.std.proofs.Common.{◌≡◌, ℕ, suc, ◌+◌, ◌*◌, ◌≤◌, ◌<◌, List, [], ◌∷◌, ◌++◌, map, length, refl, sym, ap, ◌∙◌, arith, length-append}
+use Rattle.std.proofs.Common.{◌≡◌, ℕ, suc, ◌+◌, ◌*◌, List, [], ◌∷◌, ◌++◌, map, length, refl, sym, ap, ◌∙◌, arith, length-append}
 use Rattle.std.specs.List.{All, sum_by}
 use Rattle.std.proofs.lemmas.List.{length-map, map-append}
 use Rattle.std.proofs.lemmas.List.Sums.{sum_by-cons, sum_by-append}
@@ -96,7 +96,8 @@ one_session level now start k line next sessions more state session so same_leve
     let drawn = drawn_sessions level start k in
     let commands = (times 40 (drawn_command level) (state_after level start k)).0 in
     let forty : length commands ≡ 40 = length-times 40 (drawn_command level) (state_after level start k) in
-    let before : 2 + sum_by (λ (block : List (List ℕ)). length block + 1) (map (map drawn_text) drawn) ≡ line = omega (arith, room level start k, place) in
+    let before : 2 + sum_by (λ (block : List (List ℕ)). length block + 1) (map (map drawn_text) drawn) ≡ line =
+    omega (arith, room level start k, place) in
     let blocks : blocks_from 2 (map (map drawn_text) drawn ++ map drawn_text commands ∷ [])
     ≡ blocks_from 2 (map (map drawn_text) drawn) ++ numbered_from (line + 1) (map drawn_text commands) ∷ [] =
     blocks_from-push 2 (map (map drawn_text) drawn) (map drawn_text commands) line before in

@@ -1,5 +1,5 @@
 -- The limits of a command that breaks none.
-use Rattle.std.proofs.Common.{◌≡◌, ◌+◌, ◌<◌, ◌≤◌, ◌^◌, ◌==◌, ℕ, ℤ, Bool, true, false, if◌then◌else◌, List, [], ◌∷◌, ◌++◌, length, Option, None, Some, Ok, refl, sym, ap, ◌∙◌, arith, subst}
+use Rattle.std.proofs.Common.{◌≡◌, ◌+◌, ◌<◌, ◌≤◌, ◌^◌, ◌==◌, ℕ, Bool, true, false, if◌then◌else◌, List, [], ◌∷◌, length, Option, None, Some, Ok, refl, sym, ap, arith, subst}
 use Rattle.std.proofs.lemmas.List.{length-append}
 use Rattle.p1_normal.specs.declared.matrix.TheConstants.{MAX_DET}
 use Rattle.op_polynomials.specs.declared.name.OpName.{OpName}
@@ -12,7 +12,7 @@ use Rattle.script_text.specs.declared.word.Word.{Word}
 use Rattle.script_text.specs.declared.word.Word.TheVariants as words
 use Rattle.script_text.specs.Rows.{row}
 use Rattle.script_text.specs.Tokens.{Given, nothing, natural, integer, add_operator}
-use Rattle.script_text.specs.Grammar.{next_kind, rest, add_kind, gives}
+use Rattle.script_text.specs.Grammar.{add_kind, gives}
 use Rattle.script_text.specs.Limits.{limit_of}
 use Rattle.script_text.specs.Walk.{walk}
 use Rattle.script_text.specs.Commands.{command, IsIndexed, IsWithin}

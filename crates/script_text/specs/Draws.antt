@@ -25,7 +25,7 @@
 --   generated seed        the script of the seed
 --   HasFourSessions seed  its level is 100 to 200, its characteristic is listed, and there are four sessions of forty
 --                         commands, each on a line
-use Rattle.std.specs.Prelude.{◌≡◌, ℕ, zero, suc, ◌≤◌, ◌+◌, ◌*◌, ◌%◌, List, [], ◌∷◌, ◌++◌, map, length, filter, get_or, nat_eq, codes, decimal, Option, Some, None, ◌==◌, if◌then◌else◌}
+use Rattle.std.specs.Prelude.{◌≡◌, ℕ, zero, suc, ◌≤◌, ◌+◌, ◌*◌, ◌%◌, List, [], ◌∷◌, ◌++◌, map, length, filter, get_or, nat_eq, codes, decimal, Some, None, ◌==◌, if◌then◌else◌}
 use Rattle.std.specs.List.{All, AllZip, enumerate_from, range_with_len}
 use Rattle.field_table.specs.declared.table.TheConstants.{CHARACTERISTICS}
 use Rattle.field_table.specs.Table.{IsListed}

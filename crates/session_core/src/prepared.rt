@@ -44,8 +44,8 @@ impl Model for Prepared {
 }
 
 impl Prepared {
-    /// The columns that the command demands: those of the symbols that `image` names, a zero coefficient included, and
-    /// none of another command. Takes no memory.
+    /// The columns that the command demands: those of the symbols that `image` names, a zero coefficient included;
+    /// those of all symbols where the command has an operator T_n; and none of another command. Takes no memory.
     pub fn demand(&self) -> &Demand
         ensures value { result.now ≡ self.now.demand }
         ensures demand { IsDemand self.now.ground self.now.command result.now }

@@ -1,4 +1,4 @@
-use Rattle.std.proofs.Common.{◌+◌, get_or, drop, sym, subst}
+use Rattle.std.proofs.Common.{◌+◌, drop, subst}
 use Rattle.std.proofs.lemmas.List.{drop_all, drop_more}
 use Rattle.turn_board.specs.Passes.{view}
 use Rattle.turn_board.proofs.PassLemmas.{continues_trans}

@@ -1,4 +1,4 @@
-use Rattle.std.proofs.Common.{◌≡◌, [], ap}
+use Rattle.std.proofs.Common.{[]}
 use Rattle.turn_board.specs.Passes.{view}
 use Rattle.hecke_columns.specs.Walks.{walk_number}
 use Rattle.host_workers.specs.Lookups.{IsLookup}

@@ -1,4 +1,4 @@
-use Rattle.std.proofs.Common.{◌+◌, get_or, refl, sym, subst, take}
+use Rattle.std.proofs.Common.{sym, subst, take}
 use Rattle.std.proofs.lemmas.List.{take_more}
 use Rattle.turn_board.specs.Passes.{view}
 use Rattle.turn_board.proofs.PassLemmas.{continues_trans}

@@ -1,8 +1,7 @@
-use Rattle.std.proofs.Common.{◌≡◌, ℕ, List, [], length, sym, ◌∙◌, ap, subst, arith}
+use Rattle.std.proofs.Common.{◌≡◌, [], sym, ◌∙◌}
 use Rattle.std.specs.List.{range_with_len}
 use Rattle.std.proofs.lemmas.List.Elements.{All-from_recursion}
 use Rattle.turn_board.specs.Passes.{view}
-use Rattle.script_text.specs.Numbered.{NumberedLine}
 use Rattle.column_flight.specs.Shared.{board_of as flights_board}
 use Rattle.split_versions.specs.Shared.{board_of as versions_board}
 use Rattle.host_workers.proofs.HostRuns.{none_from_empty, run_of_none}

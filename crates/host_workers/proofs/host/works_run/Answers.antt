@@ -1,8 +1,8 @@
-use Rattle.std.proofs.Common.{◌≡◌, List, length, map, sym, ◌∙◌, subst}
+use Rattle.std.proofs.Common.{length, sym, ◌∙◌, subst}
 use Rattle.std.specs.Prelude.{All}
 use Rattle.std.specs.List.{AllZip, range_with_len}
 use mathlib.Core.List.{IsPrefix}
-use Rattle.turn_board.specs.Passes.{IsAccounted, IsIdle, pass_count, view}
+use Rattle.turn_board.specs.Passes.{IsAccounted, IsIdle, view}
 use Rattle.column_flight.specs.Shared.{board_of as flights_board}
 use Rattle.split_versions.specs.Shared.{board_of as versions_board}
 use Rattle.host_workers.proofs.HostRuns.{run_of_works}

@@ -1,4 +1,4 @@
-use Rattle.std.proofs.Common.{◌≡◌, ◌+◌, ◌∙◌, None, Some, arith, refl, subst, sym}
+use Rattle.std.proofs.Common.{◌+◌, ◌∙◌, arith, refl, subst, sym}
 use Rattle.turn_board.specs.Passes.{view}
 use Rattle.turn_board.proofs.PassLemmas.{continues_refl, continues_trans}
 use Rattle.session_core.specs.Demands.{line_demand}

@@ -1,4 +1,4 @@
-use Rattle.std.proofs.Common.{◌≡◌, ◌+◌, [], ◌∷◌, ◌++◌, ◌∙◌, ap, sym, subst}
+use Rattle.std.proofs.Common.{◌+◌, [], ◌∷◌, ◌++◌, ◌∙◌, ap, subst}
 use Rattle.op_polynomials.specs.declared.entry.SplitEntry.{SplitEntry}
 use Rattle.turn_board.specs.Passes.{view}
 use Rattle.split_state.specs.Versions.{IsVersion}

@@ -1,4 +1,4 @@
-use Rattle.std.proofs.Common.{List, [], ◌∷◌, sym, rules}
+use Rattle.std.proofs.Common.{[], ◌∷◌, sym, rules}
 use Rattle.std.specs.Prelude.{All}
 use Rattle.std.proofs.lemmas.List.Elements.{All-head, All-same, All-tail}
 use denote.Param.Send.{IsSend, IsSync, mut_send, param_send, shr_send, shr_slice_send}

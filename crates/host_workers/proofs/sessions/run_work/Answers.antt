@@ -1,7 +1,6 @@
-use Rattle.std.proofs.Common.{◌≡◌, ℕ, ◌+◌, List, Some, get_or, refl, sym, ap, subst, ◌∙◌}
+use Rattle.std.proofs.Common.{◌≡◌, List, get_or, refl, ap, subst, ◌∙◌}
 use Rattle.std.proofs.lemmas.Option.{get_or_from_slice_get}
 use Rattle.turn_board.specs.Passes.{view}
-use Rattle.quotient_coords.specs.Quotient.{Ground}
 use Rattle.script_text.specs.Numbered.{NumberedLine}
 use Rattle.host_workers.specs.declared.work.SpaceBoards.{SpaceBoards}
 use Rattle.host_workers.specs.Workers.{AnswersSession, FliesSession}

@@ -1,5 +1,4 @@
 use Rattle.std.proofs.Common.{◌≡◌, ◌≤◌, ℕ, List, [], length, sym, ◌∙◌, ap, subst}
-use Rattle.std.specs.List.{AllZip}
 use Rattle.p1_normal.specs.Points.{symbols}
 use Rattle.quotient_coords.specs.Quotient.{Ground}
 use Rattle.op_polynomials.specs.declared.entry.SplitEntry.{SplitEntry}

@@ -1,4 +1,4 @@
-use Rattle.std.proofs.Common.{arith, sym, ◌∙◌}
+use Rattle.std.proofs.Common.{arith, ◌∙◌}
 use Rattle.script_text.specs.Draws.{drawn_command}
 use Rattle.reply_text.specs.Summaries.{answer_sum}
 use Rattle.reply_text.proofs.SummaryLemmas.{chosen_sum-next, chosen_sum-end, chosen_state-next, chosen_state-end, session_sum-chosen, state-chosen}

@@ -1,4 +1,4 @@
-use Rattle.std.proofs.Common.{◌≡◌, ◌+◌, ◌*◌, ◌∙◌, ℕ, List, ap, refl, subst, sym, arith}
+use Rattle.std.proofs.Common.{◌≡◌, ◌+◌, ◌*◌, ◌∙◌, List, ap, subst, sym, arith}
 use Rattle.script_text.specs.declared.space.SpaceLine.{SpaceLine}
 use Rattle.script_text.specs.Numbered.{NumberedLine}
 use Rattle.script_text.specs.Draws.{first_state, drawn_space}
