@@ -12,8 +12,6 @@ mod look;
 mod places;
 mod sharing;
 mod state;
-#[cfg(test)]
-mod tests;
 mod turns;
 
 pub use event::{FlightEvent, FlightKey};

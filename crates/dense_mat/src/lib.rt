@@ -13,8 +13,6 @@ mod laws;
 mod mat;
 mod multiplication;
 mod null_space;
-#[cfg(test)]
-mod tests;
 mod trace;
 
 pub use basis::{Basis, independent, span_of, whole_space};

@@ -15,8 +15,6 @@ mod sessions;
 mod sharing;
 mod solo;
 mod status;
-#[cfg(test)]
-mod tests;
 mod top;
 mod transcript;
 mod words;

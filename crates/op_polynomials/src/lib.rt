@@ -11,6 +11,3 @@ mod values;
 pub use entry::SplitEntry;
 pub use name::OpName;
 pub use poly::{MAX_COEFFICIENTS, Poly, PolyFault, limit_values};
-
-#[cfg(test)]
-mod tests;

@@ -35,6 +35,3 @@ pub use summary::write_summary;
 pub use transcript::{ReplyLine, Transcript};
 pub use transcript_fault::TranscriptFault;
 pub use transcript_reader::{one_transcript_has_a_text, read_transcript};
-
-#[cfg(test)]
-mod tests;

@@ -43,8 +43,3 @@ pub use session::SessionText;
 pub use space::SpaceLine;
 pub use term::Term;
 pub use word::Word;
-
-#[cfg(test)]
-mod generated_tests;
-#[cfg(test)]
-mod tests;

@@ -12,8 +12,6 @@ mod outcome;
 mod prepared;
 mod preparing;
 mod terms;
-#[cfg(test)]
-mod tests;
 
 pub use demand::Demand;
 pub use finishing::finish;

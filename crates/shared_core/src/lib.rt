@@ -12,8 +12,6 @@ mod machine;
 mod operators;
 mod run;
 mod step;
-#[cfg(test)]
-mod tests;
 
 pub use fault::EventFault;
 pub use laws::{runs_are_exact, sessions_learn_more};

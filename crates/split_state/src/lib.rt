@@ -8,8 +8,6 @@ mod fault;
 mod laws;
 mod refining;
 mod splitting;
-#[cfg(test)]
-mod tests;
 
 pub use fault::RefineFault;
 pub use laws::{

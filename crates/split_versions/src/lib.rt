@@ -5,8 +5,6 @@ mod fault;
 mod laws;
 mod sharing;
 mod state;
-#[cfg(test)]
-mod tests;
 mod versions;
 
 pub use fault::{CommitFault, Freshness};

@@ -16,6 +16,3 @@ pub use limits::limit_values;
 pub use sink::{MemSink, Sink, WriterSink};
 pub use source::{MemSource, ReaderSource, Source};
 pub use whole::{PIECE_SIZE, read_all, write_all};
-
-#[cfg(test)]
-mod tests;

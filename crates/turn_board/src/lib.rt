@@ -23,8 +23,6 @@ mod lent;
 mod pass;
 mod plays;
 mod sharing;
-#[cfg(test)]
-mod tests;
 mod turns;
 mod view;
 

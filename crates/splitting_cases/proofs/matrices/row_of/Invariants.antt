@@ -1,0 +1,9 @@
+use Rattle.std.proofs.Common.{◌≡◌, length}
+use Rattle.field_table.specs.Residues.{AreResidues}
+use Rattle.splitting_cases.proofs.matrices.row_of.Given as goal
+
+abbrev pub invariant-loop-k : goal.invariant-loop-k
+invariant-loop-k l = record {
+  length : length l.row.items ≡ l.k;
+  residues : AreResidues l.field l.row.items;
+}

@@ -1,0 +1,91 @@
+use heilbronn_chains::{chains, merel_by_chains, next, starts};
+use heilbronn_sets::{SetFault, merel_set};
+use p1_normal::Matrix;
+use std::test::Fail;
+
+// The sum of the divisors of n, by trial.
+fn divisor_sum(n: usize) -> usize {
+    let mut sum = 0usize;
+    for d in 0..n {
+        if n % (d + 1) == 0 {
+            sum = sum.saturating_add(d + 1);
+        }
+    }
+    sum
+}
+
+// The matrix after a matrix, and the end of a chain.
+#[test]
+fn steps(rt: HostRuntime) -> Result<(), Fail> {
+    assert_eq!(rt;
+        next(&Matrix::new(1, 0, 3, 4)),
+        Some(Matrix::new(2, 1, 2, 3))
+    );
+    assert_eq!(rt;
+        next(&Matrix::new(2, 1, 2, 3)),
+        Some(Matrix::new(3, 2, 1, 2))
+    );
+    assert_eq!(rt;
+        next(&Matrix::new(3, 2, 1, 2)),
+        Some(Matrix::new(4, 3, 0, 1))
+    );
+    assert_eq!(rt; next(&Matrix::new(4, 3, 0, 1)), None);
+    assert_eq!(rt;
+        next(&Matrix::new(1, 0, 1, 3)),
+        Some(Matrix::new(3, 1, 0, 1))
+    );
+    Ok(())
+}
+
+// The chains of determinant 3, written out.
+#[test]
+fn chains_of_three(rt: HostRuntime) -> Result<(), Fail> {
+    let expected: [&[(i32, i32, i32, i32)]; 4] = [
+        &[(1, 0, 0, 3)],
+        &[(1, 0, 1, 3), (3, 1, 0, 1)],
+        &[(1, 0, 2, 3), (2, 1, 1, 2), (3, 2, 0, 1)],
+        &[(3, 0, 0, 1)],
+    ];
+    let found = chains(rt.alloc(), 3)?;
+    assert_eq!(rt; found.len(), expected.len());
+    for (chain, list) in found.iter().zip(expected.iter()) {
+        assert_eq!(rt; chain.as_slice().len(), list.len());
+        for (m, (a, b, c, d)) in chain.as_slice().iter().zip(list.iter()) {
+            assert_eq!(rt; (m.a, m.b, m.c, m.d), (*a, *b, *c, *d));
+        }
+    }
+    Ok(())
+}
+
+// The chains walk through Merel's set, and there are as many as the divisors add up to.
+#[test]
+fn sets_by_chains(rt: HostRuntime) -> Result<(), Fail> {
+    for n in 1..13u32 {
+        let set = merel_by_chains(rt.alloc(), n)?;
+        let plain = merel_set(rt.alloc(), n)?;
+        assert_eq!(rt; (set.det(), set.list().len()), (n, plain.list().len()));
+        for (m, k) in set.list().iter().zip(plain.list().iter()) {
+            assert_eq!(rt; *m, *k);
+        }
+        assert_eq!(rt; starts(rt.alloc(), n)?.len(), divisor_sum(n as usize));
+        assert_eq!(rt; chains(rt.alloc(), n)?.len(), divisor_sum(n as usize));
+    }
+    Ok(())
+}
+
+// 0 and 201 are refused, and 200 is not: the divisors of 200 add up to 465.
+#[test]
+fn limits(rt: HostRuntime) -> Result<(), Fail> {
+    for n in [0, 201] {
+        assert_eq!(rt; starts(rt.alloc(), n).err(), Some(SetFault::Limit { n }));
+        assert_eq!(rt;
+            merel_by_chains(rt.alloc(), n).err(),
+            Some(SetFault::Limit { n })
+        );
+        assert!(rt; matches!(chains(rt.alloc(), n), Err(SetFault::Limit { n: 0 | 201 })));
+    }
+    assert_eq!(rt; starts(rt.alloc(), 200)?.len(), 465);
+    assert_eq!(rt; chains(rt.alloc(), 200)?.len(), 465);
+    assert_eq!(rt; merel_by_chains(rt.alloc(), 200)?.det(), 200);
+    Ok(())
+}

@@ -1,0 +1,320 @@
+ghost use Rattle.std.specs.Prelude.{◌≡◌, ◌<◌, ◌≤◌, IfOk, length, true};
+ghost use Rattle.heilbronn_sets.specs.Merel.{merel_matrices};
+ghost use Rattle.p1_normal.specs.declared.matrix.TheConstants.{MAX_DET};
+ghost use Rattle.p1_normal.specs.Points.{symbols};
+ghost use Rattle.p1_normal.specs.Units.{gcd};
+
+use field_table::{Field, OutOfMemory};
+use hecke_columns::{
+    Column, ColumnSource, GatheredColumns, LocalColumns, Steps, Turns, Walk, Walks, column_of,
+    columns_add_up, sums_are_linear,
+};
+use heilbronn_sets::{MatrixSet, merel_set};
+use p1_normal::{Level, MAX_DET, gcd};
+use quotient_coords::Space;
+use std::alloc::Global;
+use std::sync::Arc;
+use std::test::Fail;
+
+// What workers share may be sent and shared.
+fn needs<T: Send + Sync>(_: &T) {}
+
+// The quotient at level 11 and characteristic 101, and Merel's set of a determinant.
+fn opened_at_11(alloc: Global, n: u32) -> Result<(Space, MatrixSet), Fail>
+    requires { gcd n 11 ≡ 1 }
+    ensures coprime { IfOk result (λ s. gcd s.1.det s.0.level ≡ 1) }
+    ensures merel { IfOk result (λ s. s.1.list ≡ merel_matrices s.1.det) }
+{
+    let space = Space::open(alloc, Level::open(alloc, 11)?, Field::open(101)?)?;
+    Ok((space, merel_set(alloc, n)?))
+}
+
+// What any source says of its matrices.
+fn determinant_of<S: ColumnSource>(source: &S) -> u32 {
+    source.determinant()
+}
+
+// At level 11 symbol 0 is (0:1), symbol v + 1 is (1:v), and the free symbols are 0, 3 and 4.
+#[test]
+#[tactic(auto, using(hecke_columns::proofs::Coprime::coprime_2_11))]
+fn columns_of_two_at_11(rt: HostRuntime) -> Result<(), Fail> {
+    sums_are_linear();
+    columns_add_up();
+    let (space, set) = opened_at_11(rt.alloc(), 2)?;
+    for (k, values) in [(0, [3, 1, 0]), (3, [0, 99, 0]), (4, [0, 0, 99])] {
+        assert!(rt; k < space.level().count());
+        let coords = column_of(rt.alloc(), &space, &set, k)?;
+        assert!(rt; coords.as_slice() == values.as_slice(), "at {k}");
+        let column = Column::compute(rt.alloc(), &space, &set, k)?;
+        assert!(rt; column.coords() == values.as_slice(), "at {k}");
+        assert_eq!(rt; (column.modulus(), column.characteristic()), (11, 101));
+        assert_eq!(rt; (column.n(), column.symbol()), (2, k));
+        needs(&column);
+    }
+    Ok(())
+}
+
+// Twice the column of symbol 0 is added to 1 0 0.
+#[test]
+#[tactic(auto, using(hecke_columns::proofs::Coprime::coprime_2_11))]
+fn added_column_at_11(rt: HostRuntime) -> Result<(), Fail> {
+    let (space, set) = opened_at_11(rt.alloc(), 2)?;
+    assert!(rt; 0 < space.level().count());
+    let mut sum = [1, 0, 0];
+    assert_eq!(rt; sum.len(), space.dim() as usize);
+    assert!(rt; 2 < space.field().characteristic());
+    let mut source = LocalColumns::new(&space, &set);
+    needs(&source);
+    assert_eq!(rt; determinant_of(&source), 2);
+    source.add_column(rt.alloc(), 0, 2, &mut sum)?;
+    assert!(rt; sum == [7, 2, 0]);
+    Ok(())
+}
+
+// The one matrix of determinant 1 keeps each symbol: these are the symbols' own coordinates, by the relations.
+#[test]
+#[tactic(auto, using(hecke_columns::proofs::Coprime::coprime_1_11))]
+fn columns_of_one_at_11(rt: HostRuntime) -> Result<(), Fail> {
+    let (space, set) = opened_at_11(rt.alloc(), 1)?;
+    for (k, values) in [
+        (0, [1, 0, 0]),
+        (1, [100, 0, 0]),
+        (2, [0, 0, 0]),
+        (3, [0, 1, 0]),
+        (4, [0, 0, 1]),
+        (5, [0, 100, 1]),
+        (6, [0, 100, 0]),
+        (7, [0, 100, 0]),
+        (8, [0, 0, 100]),
+        (9, [0, 1, 100]),
+        (10, [0, 1, 0]),
+        (11, [0, 0, 0]),
+    ] {
+        assert!(rt; k < space.level().count());
+        let coords = column_of(rt.alloc(), &space, &set, k)?;
+        assert!(rt; coords.as_slice() == values.as_slice(), "at {k}");
+    }
+    Ok(())
+}
+
+// The quotient at level 11 and characteristic 101.
+fn space_at_11(alloc: Global) -> Result<Space, Fail>
+    ensures level { IfOk result (λ s. s.level ≡ 11) }
+{
+    let level = Level::open(alloc, 11)?;
+    let field = Field::open(101)?;
+    Ok(Space::open(alloc, level, field)?)
+}
+
+// Whether the column of symbol k over Merel's set of determinant n is this one, by chains.
+fn is_column_by_chains(
+    alloc: Global,
+    space: &Space,
+    n: u32,
+    k: u32,
+    values: &[u32],
+) -> Result<bool, OutOfMemory>
+    requires limits { (0 < n) × (n ≤ MAX_DET) }
+    requires coprime { gcd n space.now.level ≡ 1 }
+{
+    if k >= space.level().count() {
+        return Ok(false);
+    }
+    let column = Column::by_chains(alloc, space, n, k)?;
+    Ok(column.n() == n && column.symbol() == k && column.coords() == values)
+}
+
+// Whether it is this one by turns, with a table of turns up to a limit.
+fn is_column_by_turns(
+    alloc: Global,
+    space: &Space,
+    steps: &Steps,
+    limit: u32,
+    k: u32,
+    values: &[u32],
+) -> Result<bool, OutOfMemory>
+    requires limit { limit ≤ MAX_DET }
+    requires coprime { gcd steps.now space.now.level ≡ 1 }
+{
+    if k >= space.level().count() {
+        return Ok(false);
+    }
+    let turns = Turns::of(alloc, space.level(), limit)?;
+    needs(&turns);
+    let column = Column::by_turns(alloc, space, &turns, steps, k)?;
+    Ok(column.n() == steps.n() && column.symbol() == k && column.coords() == values)
+}
+
+#[test]
+#[tactic(auto, using(hecke_columns::proofs::Coprime::coprime_3_11))]
+fn column_of_three_by_chains(rt: HostRuntime) -> Result<(), Fail> {
+    let space = space_at_11(rt.alloc())?;
+    assert!(rt; is_column_by_chains(rt.alloc(), &space, 3, 0, &[4, 1, 0])?);
+    Ok(())
+}
+
+// With quotients up to 3, one more than the table has.
+#[test]
+#[tactic(auto, using(hecke_columns::proofs::Coprime::coprime_3_11))]
+fn column_of_three_by_turns(rt: HostRuntime) -> Result<(), Fail> {
+    let space = space_at_11(rt.alloc())?;
+    let steps = Steps::of(rt.alloc(), 3)?;
+    needs(&steps);
+    assert!(rt; is_column_by_turns(rt.alloc(), &space, &steps, 2, 0, &[4, 1, 0])?);
+    Ok(())
+}
+
+#[test]
+#[tactic(auto, using(hecke_columns::proofs::Coprime::coprime_6_11))]
+fn column_of_six_by_turns(rt: HostRuntime) -> Result<(), Fail> {
+    let space = space_at_11(rt.alloc())?;
+    let steps = Steps::of(rt.alloc(), 6)?;
+    assert!(rt; is_column_by_turns(rt.alloc(), &space, &steps, 6, 4, &[0, 0, 2])?);
+    Ok(())
+}
+
+// Whether the column of symbol k is the same over the set, by chains and by turns.
+fn columns_agree(
+    alloc: Global,
+    space: &Space,
+    set: &MatrixSet,
+    turns: &Turns,
+    steps: &Steps,
+    k: u32,
+) -> Result<bool, OutOfMemory>
+    requires limits { (0 < steps.now) × (steps.now ≤ MAX_DET) }
+    requires merel { (set.now.det ≡ steps.now) × (set.now.list ≡ merel_matrices steps.now) }
+    requires coprime { gcd steps.now space.now.level ≡ 1 }
+    requires table { turns.now.level ≡ space.now.level }
+    requires place { k < length (symbols space.now.level) }
+{
+    let plain = Column::compute(alloc, space, set, k)?;
+    let walked = Column::by_chains(alloc, space, steps.n(), k)?;
+    let turned = Column::by_turns(alloc, space, turns, steps, k)?;
+    Ok(plain.coords() == walked.coords() && plain.coords() == turned.coords())
+}
+
+// The same of all symbols.
+fn all_columns_agree(alloc: Global, space: &Space, n: u32) -> Result<bool, Fail>
+    requires limits { (0 < n) × (n ≤ MAX_DET) }
+    requires coprime { gcd n space.now.level ≡ 1 }
+{
+    let set = merel_set(alloc, n)?;
+    let steps = Steps::of(alloc, n)?;
+    let turns = Turns::of(alloc, space.level(), 5)?;
+    for k in 0..space.level().count() {
+        if !columns_agree(alloc, space, &set, &turns, &steps, k)? {
+            return Ok(false);
+        }
+    }
+    Ok(true)
+}
+
+// The same of all numbers up to 60 that are coprime to the level.
+fn agree_at(alloc: Global, modulus: u32) -> Result<bool, Fail> {
+    let level = Level::open(alloc, modulus)?;
+    let field = Field::open(65521)?;
+    let space = Space::open(alloc, level, field)?;
+    for n in 1..61 {
+        if gcd(n, space.level().modulus()) == 1 && !all_columns_agree(alloc, &space, n)? {
+            return Ok(false);
+        }
+    }
+    Ok(true)
+}
+
+#[test]
+fn columns_agree_at_ten_levels(rt: HostRuntime) -> Result<(), Fail> {
+    for modulus in [1, 2, 11, 12, 25, 36, 37, 49, 60, 64] {
+        assert!(rt; agree_at(rt.alloc(), modulus)?, "at {modulus}");
+    }
+    Ok(())
+}
+
+// Whether the column of symbol k along the walk of determinant n is this one.
+fn is_column_along(
+    alloc: Global,
+    space: &Space,
+    walks: &Walks,
+    n: u32,
+    k: u32,
+    values: &[u32],
+) -> Result<bool, OutOfMemory>
+    requires level { walks.now ≡ space.now.level }
+    requires limits { (0 < n) × (n ≤ MAX_DET) }
+    requires coprime { gcd n space.now.level ≡ 1 }
+{
+    if k >= space.level().count() {
+        return Ok(false);
+    }
+    let walk = walks.walk(n);
+    let column = walk.column(alloc, space, k)?;
+    Ok(walk.n() == n && column.n() == n && column.coords() == values)
+}
+
+// Whether the walk of determinant n is by turns.
+fn is_by_turns(walks: &Walks, n: u32) -> bool
+    requires limits { (0 < n) × (n ≤ MAX_DET) }
+{
+    matches!(walks.walk(n), Walk::Turns { .. })
+}
+
+// Walks at level 11 that are readied for so many columns of determinant 2.
+fn walks_of_two(alloc: Global, space: &Space, columns: u32) -> Result<Walks, OutOfMemory>
+    ensures { IfOk result (λ walks. walks ≡ space.now.level) }
+{
+    let mut walks = Walks::new(alloc, space.level());
+    walks.hold(alloc, space.level(), 2, columns)?;
+    Ok(walks)
+}
+
+#[test]
+#[tactic(auto, using(hecke_columns::proofs::Coprime::coprime_2_11))]
+fn few_columns_are_made_by_chains(rt: HostRuntime) -> Result<(), Fail> {
+    let space = space_at_11(rt.alloc())?;
+    let walks = walks_of_two(rt.alloc(), &space, 15)?;
+    assert!(rt; !is_by_turns(&walks, 2));
+    assert!(rt; is_column_along(rt.alloc(), &space, &walks, 2, 0, &[3, 1, 0])?);
+    Ok(())
+}
+
+#[test]
+#[tactic(auto, using(hecke_columns::proofs::Coprime::coprime_2_11))]
+fn many_columns_are_made_by_turns(rt: HostRuntime) -> Result<(), Fail> {
+    let space = space_at_11(rt.alloc())?;
+    let walks = walks_of_two(rt.alloc(), &space, 16)?;
+    assert!(rt; is_by_turns(&walks, 2));
+    assert!(rt; is_column_along(rt.alloc(), &space, &walks, 2, 0, &[3, 1, 0])?);
+    Ok(())
+}
+
+// A source of the columns of symbols 0 and 4.
+fn two_columns(alloc: Global, space: &Space, n: u32) -> Result<GatheredColumns, Fail>
+    requires limits { (0 < n) × (n ≤ MAX_DET) }
+    requires coprime { gcd n space.now.level ≡ 1 }
+    requires places { 4 < length (symbols space.now.level) }
+    ensures setting { IfOk result (λ s. ⟦<GatheredColumns as ColumnSource>⟧.setting s ≡ space.now) }
+    ensures first { IfOk result (λ s. ⟦<GatheredColumns as ColumnSource>⟧.can_give s 0 ≡ true) }
+    ensures last { IfOk result (λ s. ⟦<GatheredColumns as ColumnSource>⟧.can_give s 4 ≡ true) }
+{
+    let mut columns = Vec::with_capacity(alloc, 2)?;
+    columns.push(Arc::new(alloc, Column::by_chains(alloc, space, n, 0)?)?)?;
+    columns.push(Arc::new(alloc, Column::by_chains(alloc, space, n, 4)?)?)?;
+    Ok(GatheredColumns::of(alloc, space, columns, n)?)
+}
+
+// Twice the column of symbol 4, which is (1:3), an eigenvector to -2.
+#[test]
+#[tactic(auto, using(hecke_columns::proofs::Coprime::coprime_2_11))]
+fn gathered_columns_at_11(rt: HostRuntime) -> Result<(), Fail> {
+    let space = space_at_11(rt.alloc())?;
+    assert!(rt; 4 < space.level().count());
+    let mut sum = [1, 0, 0];
+    assert_eq!(rt; sum.len(), space.dim() as usize);
+    assert!(rt; 2 < space.field().characteristic());
+    let mut source = two_columns(rt.alloc(), &space, 2)?;
+    assert_eq!(rt; determinant_of(&source), 2);
+    source.add_column(rt.alloc(), 4, 2, &mut sum)?;
+    assert!(rt; sum == [1, 0, 97]);
+    Ok(())
+}
