@@ -1,7 +1,7 @@
 mod serving;
 mod session;
 
-use host_workers::{NoGate, Status, limits, run, run_solo};
+use host_workers::{NoGate, Status, limits, run, run_solo, shared_runs_are_legal};
 use script_text::ScriptCause;
 use std::alloc::Global;
 use std::sync::Wait;
@@ -223,4 +223,5 @@ fn images_of_many_terms(rt: HostRuntime) -> Result<(), Fail> {
 #[test]
 fn laws(_rt: HostRuntime) {
     limits();
+    shared_runs_are_legal();
 }

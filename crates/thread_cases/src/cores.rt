@@ -97,6 +97,22 @@ fn illegal_and_open(rt: HostRuntime) -> Result<(), Fail> {
     Ok(())
 }
 
+// A publication of what the session has not claimed is no step.
+#[test]
+fn publication_without_a_claim(rt: HostRuntime) -> Result<(), Fail> {
+    let space = Space::open(rt.alloc(), Level::open(rt.alloc(), 11)?, Field::open(101)?)?;
+    let key = FlightKey { n: 2, symbol: 0 };
+    let steps = [CoreStep {
+        session: 1,
+        act: Act::Publish(key),
+    }];
+    match run_events(rt.alloc(), &space, 1, &steps) {
+        Ok(_) => assert!(rt; false),
+        Err(fault) => assert!(rt; fault == EventFault::Illegal { place: 0 }),
+    }
+    Ok(())
+}
+
 // Both sessions split what they know, at version 0: the second is stale, and learns.
 #[test]
 fn stale_commit(rt: HostRuntime) -> Result<(), Fail> {

@@ -228,6 +228,23 @@ fn commit_and_look<R: Wait>(
     )
 }
 
+// Whether the pass learns one entry, and finds no more right after.
+fn learns_one<R: Wait>(
+    rt: &R,
+    versions: &Versions,
+    pass: &mut Pass<VersionState>,
+) -> Result<bool, Fail>
+    requires board { IsOf (board_of versions.now) pass.old }
+    requires idle { (view pass.old).has_turn ≡ false }
+    ensures board { IsOf (board_of versions.now) pass.new }
+    ensures idle { (view pass.new).has_turn ≡ false }
+    ensures number { (view pass.new).number ≡ (view pass.old).number }
+{
+    let (seen, _) = versions.current(rt, pass)?;
+    let same = versions.newer(pass);
+    Ok(seen == 1 && matches!(same, Freshness::Same))
+}
+
 // The history of versions with two passes.
 fn close_two(
     alloc: Global,
@@ -246,7 +263,7 @@ fn close_two(
     Ok(versions.close(passes))
 }
 
-// One pass commits, and another finds that there is more.
+// One pass commits, and another finds that there is more, learns it and finds no more.
 #[test]
 fn two_passes(rt: HostRuntime) -> Result<(), Fail> {
     let space = space_at_11(rt.alloc())?;
@@ -264,7 +281,8 @@ fn two_passes(rt: HostRuntime) -> Result<(), Fail> {
         &mut second,
         entry,
     )?;
-    assert!(rt; found);
+    let learnt = learns_one(&rt, &versions, &mut second)?;
+    assert!(rt; found && learnt);
     let state = close_two(rt.alloc(), versions, first, second)?;
     assert_eq!(rt; state.entries().len(), 1);
     Ok(())
