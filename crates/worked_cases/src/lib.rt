@@ -1,7 +1,8 @@
-//! Tests that cross crates, and those of the crates up to Hecke columns: fields, symbols, relations, elimination,
-//! coordinates, cusps, the star, Merel's sets, chains and columns. The space of level 11 from its relations to the coordinates of each symbol, in every
-//! characteristic; the numbers of symbols and the dimensions against the genus and the elliptic points; certificates,
-//! right and wrong ones; and elimination of drawn rows against a plain one. It has nothing but tests.
+//! Tests of the crates up to Hecke columns: fields, symbols, relations, elimination, coordinates, cusps, the star,
+//! Merel's sets, chains and columns; and tests that cross crates: the space of level 11 from its relations to the
+//! coordinates of each symbol, in every characteristic; the numbers of symbols and the dimensions against the genus
+//! and the elliptic points; certificates, right and wrong ones; and elimination of drawn rows against a plain one. It
+//! has nothing but tests.
 #![tactic(auto)]
 
 #[cfg(test)]
