@@ -1,4 +1,4 @@
-ghost use Rattle.std.specs.Prelude.{◌≡◌, IfOk};
+ghost use Rattle.std.specs.Prelude.{◌≡◌};
 ghost use Rattle.p1_normal.specs.Units.{gcd};
 
 use dense_mat::Mat;
@@ -9,7 +9,7 @@ use hecke_ops::{
     operators_give_sums, vet,
 };
 use heilbronn_sets::{MatrixSet, merel_set};
-use p1_normal::{Level, Matrix};
+use p1_normal::{Level, Matrix, gcd};
 use quotient_coords::Space;
 use std::alloc::Global;
 use std::test::Fail;
@@ -33,9 +33,7 @@ fn has_columns(mat: &Mat, columns: &[[u32; 3]]) -> bool {
 }
 
 // The quotient at level 11 and characteristic 101.
-fn space_at_11(alloc: Global) -> Result<Space, Fail>
-    ensures { IfOk result (λ s. s ≡ record { level = 11; characteristic = 101 }) }
-{
+fn space_at_11(alloc: Global) -> Result<Space, Fail> {
     Ok(Space::open(alloc, Level::open(alloc, 11)?, Field::open(101)?)?)
 }
 
@@ -48,11 +46,12 @@ fn vetted(alloc: Global, space: &Space, set: &MatrixSet) -> Result<Operator, Vet
 }
 
 // The operator of Merel's set of determinant n at level 11.
-fn operator_at_11(alloc: Global, n: u32) -> Result<Operator, Fail>
-    requires coprime { gcd n 11 ≡ 1 }
-{
+fn operator_at_11(alloc: Global, n: u32) -> Result<Operator, Fail> {
     let space = space_at_11(alloc)?;
     let set = merel_set(alloc, n)?;
+    if gcd(set.det(), space.level().modulus()) != 1 {
+        return Err(Fail::from("not coprime to 11"));
+    }
     let Ok(operator) = vetted(alloc, &space, &set) else {
         return Err(Fail::from("the set has no operator"));
     };
@@ -60,7 +59,6 @@ fn operator_at_11(alloc: Global, n: u32) -> Result<Operator, Fail>
 }
 
 #[test]
-#[tactic(auto, using(hecke_columns::proofs::Coprime::coprime_2_11))]
 fn operator_of_two_at_11(rt: HostRuntime) -> Result<(), Fail> {
     let operator = operator_at_11(rt.alloc(), 2)?;
     needs(&operator);
@@ -70,7 +68,6 @@ fn operator_of_two_at_11(rt: HostRuntime) -> Result<(), Fail> {
 }
 
 #[test]
-#[tactic(auto, using(hecke_ops::proofs::Coprime::coprime_3_11))]
 fn operator_of_three_at_11(rt: HostRuntime) -> Result<(), Fail> {
     let operator = operator_at_11(rt.alloc(), 3)?;
     assert_eq!(rt; operator.trace(), 2);
@@ -81,7 +78,6 @@ fn operator_of_three_at_11(rt: HostRuntime) -> Result<(), Fail> {
 
 // Three of the four matrices of Merel's set.
 #[test]
-#[tactic(auto, using(hecke_columns::proofs::Coprime::coprime_2_11))]
 fn failing_relation_at_11(rt: HostRuntime) -> Result<(), Fail> {
     let space = space_at_11(rt.alloc())?;
     let list = vec![in rt.alloc();
@@ -90,6 +86,7 @@ fn failing_relation_at_11(rt: HostRuntime) -> Result<(), Fail> {
         Matrix::new(2, 0, 0, 1),
     ]?;
     let set = MatrixSet::of(2, list)?;
+    assert!(rt; gcd(set.det(), space.level().modulus()) == 1);
     let Err(VetFault::Relation { number, coords }) = vetted(rt.alloc(), &space, &set) else {
         return Err(Fail::from("no relation fails"));
     };

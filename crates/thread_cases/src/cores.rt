@@ -6,7 +6,6 @@ use field_table::Field;
 use op_polynomials::{OpName, Poly};
 use p1_normal::Level;
 use quotient_coords::Space;
-use shared_core::Outcome::{Committed as C, Learnt as L, Stale as S};
 use shared_core::{
     Act, CoreStep, EventFault, Outcome, run_events, runs_are_exact, sessions_learn_more,
 };
@@ -113,66 +112,49 @@ fn publication_without_a_claim(rt: HostRuntime) -> Result<(), Fail> {
     Ok(())
 }
 
-// Both sessions split what they know, at version 0: the second is stale, and learns.
-#[test]
-fn stale_commit(rt: HostRuntime) -> Result<(), Fail> {
-    let field = Field::open(101)?;
-    let space = Space::open(rt.alloc(), Level::open(rt.alloc(), 11)?, field)?;
-    let poly = Poly::of(field, &[1])?;
-    let act = Act::Commit {
-        command: 1,
-        op: OpName::Star,
-        poly,
-    };
-    let steps = [
-        CoreStep { session: 1, act },
-        CoreStep { session: 2, act },
-        CoreStep {
-            session: 2,
-            act: Act::Learn,
-        },
-        CoreStep { session: 2, act },
-    ];
-    match run_events(rt.alloc(), &space, 2, &steps) {
-        Ok(run) => {
-            let outcomes = [
-                Outcome::Committed(1),
-                Outcome::Stale(1),
-                Outcome::Learnt(1),
-                Outcome::Committed(2),
-            ];
-            assert!(rt; run.outcomes.as_slice() == outcomes.as_slice());
-            assert_eq!(rt; run.history.len(), 2);
-        }
-        Err(_) => assert!(rt; false),
-    }
-    Ok(())
+// Each order of two sessions that commit, learn and commit again, a line each: the session of each step, and what the
+// steps answer, by Learnt, Committed and Stale with their numbers. A commit is stale exactly where the history has
+// grown since its session learnt it.
+const SCHEDULES: &[u8] =
+    b"111222C1L1C2S2L2C3\n112122C1L1S1C2L2C3\n112212C1L1S1L1C2S2\n112221C1L1S1L1C2S2\n121122C1S1L1C2L2C3\n121212C1S1L1L1C2S2\n121221C1S1L1L1C2S2\n122112C1S1L1L1C2S2\n122121C1S1L1L1C2S2\n122211C1S1L1C2L2C3\n211122C1S1L1C2L2C3\n211212C1S1L1L1C2S2\n211221C1S1L1L1C2S2\n212112C1S1L1L1C2S2\n212121C1S1L1L1C2S2\n212211C1S1L1C2L2C3\n221112C1L1S1L1C2S2\n221121C1L1S1L1C2S2\n221211C1L1S1C2L2C3\n222111C1L1C2S2L2C3";
+
+// The sessions of a line.
+fn order_of(line: &[u8]) -> [u32; 6] {
+    let session = |place: usize| if line.get(place) == Some(&b'1') { 1 } else { 2 };
+    [
+        session(0),
+        session(1),
+        session(2),
+        session(3),
+        session(4),
+        session(5),
+    ]
 }
 
-// Each order of two sessions that commit, learn and commit again, by the session of each step, and what the
-// steps answer: a commit is stale exactly where the history has grown since its session learnt it.
-const SCHEDULES: [([u32; 6], [Outcome; 6]); 20] = [
-    ([1, 1, 1, 2, 2, 2], [C(1), L(1), C(2), S(2), L(2), C(3)]),
-    ([1, 1, 2, 1, 2, 2], [C(1), L(1), S(1), C(2), L(2), C(3)]),
-    ([1, 1, 2, 2, 1, 2], [C(1), L(1), S(1), L(1), C(2), S(2)]),
-    ([1, 1, 2, 2, 2, 1], [C(1), L(1), S(1), L(1), C(2), S(2)]),
-    ([1, 2, 1, 1, 2, 2], [C(1), S(1), L(1), C(2), L(2), C(3)]),
-    ([1, 2, 1, 2, 1, 2], [C(1), S(1), L(1), L(1), C(2), S(2)]),
-    ([1, 2, 1, 2, 2, 1], [C(1), S(1), L(1), L(1), C(2), S(2)]),
-    ([1, 2, 2, 1, 1, 2], [C(1), S(1), L(1), L(1), C(2), S(2)]),
-    ([1, 2, 2, 1, 2, 1], [C(1), S(1), L(1), L(1), C(2), S(2)]),
-    ([1, 2, 2, 2, 1, 1], [C(1), S(1), L(1), C(2), L(2), C(3)]),
-    ([2, 1, 1, 1, 2, 2], [C(1), S(1), L(1), C(2), L(2), C(3)]),
-    ([2, 1, 1, 2, 1, 2], [C(1), S(1), L(1), L(1), C(2), S(2)]),
-    ([2, 1, 1, 2, 2, 1], [C(1), S(1), L(1), L(1), C(2), S(2)]),
-    ([2, 1, 2, 1, 1, 2], [C(1), S(1), L(1), L(1), C(2), S(2)]),
-    ([2, 1, 2, 1, 2, 1], [C(1), S(1), L(1), L(1), C(2), S(2)]),
-    ([2, 1, 2, 2, 1, 1], [C(1), S(1), L(1), C(2), L(2), C(3)]),
-    ([2, 2, 1, 1, 1, 2], [C(1), L(1), S(1), L(1), C(2), S(2)]),
-    ([2, 2, 1, 1, 2, 1], [C(1), L(1), S(1), L(1), C(2), S(2)]),
-    ([2, 2, 1, 2, 1, 1], [C(1), L(1), S(1), C(2), L(2), C(3)]),
-    ([2, 2, 2, 1, 1, 1], [C(1), L(1), C(2), S(2), L(2), C(3)]),
-];
+// Whether the pair of bytes tells the outcome.
+fn is_told(outcome: &Outcome, pair: &[u8]) -> bool {
+    let (letter, number) = match outcome {
+        Outcome::Learnt(number) => (b'L', *number),
+        Outcome::Committed(number) => (b'C', *number),
+        Outcome::Stale(number) => (b'S', *number),
+        _ => return false,
+    };
+    matches!(pair, [first, last] if *first == letter && u64::from(*last) == 48 + u64::from(number))
+}
+
+// Whether the bytes tell the outcomes, one after another.
+fn are_told(outcomes: &[Outcome], told: &[u8]) -> bool {
+    if 2 * (outcomes.len() as u128) != told.len() as u128 {
+        return false;
+    }
+    for (place, outcome) in outcomes.iter().enumerate() {
+        let start = 2 * place;
+        if !is_told(outcome, &told[start..start + 2]) {
+            return false;
+        }
+    }
+    true
+}
 
 // What the session of a place does there: it learns at its second step, and commits at the others.
 fn act_at(order: &[u32; 6], place: usize, commit: &Act) -> Act
@@ -210,19 +192,19 @@ fn steps_of(
     Ok(steps)
 }
 
-// Whether the steps of an order answer so.
-fn answers(
-    alloc: Global,
-    space: &Space,
-    commit: &Act,
-    order: &[u32; 6],
-    expected: &[Outcome; 6],
-) -> Result<bool, AllocError>
+// Whether the steps of a line answer so, and the history has an entry for each accepted commit.
+fn answers(alloc: Global, space: &Space, commit: &Act, line: &[u8]) -> Result<bool, AllocError>
     requires { HasActResidues space.now.characteristic commit.now }
 {
-    let steps = steps_of(alloc, space.field(), order, commit)?;
+    if line.len() != 18 {
+        return Ok(false);
+    }
+    let commits = line.iter().filter(|it| **it == b'C').count();
+    let steps = steps_of(alloc, space.field(), &order_of(line), commit)?;
     match run_events(alloc, space, 2, &steps) {
-        Ok(run) => Ok(run.outcomes.as_slice() == expected.as_slice()),
+        Ok(run) => Ok(
+            are_told(run.outcomes.as_slice(), &line[6..]) && run.history.len() == commits,
+        ),
         Err(_) => Ok(false),
     }
 }
@@ -235,8 +217,11 @@ fn schedules_of_two_sessions(rt: HostRuntime) -> Result<(), Fail> {
         op: OpName::Star,
         poly: Poly::of(space.field(), &[1])?,
     };
-    for (order, expected) in &SCHEDULES {
-        assert!(rt; answers(rt.alloc(), &space, &commit, order, expected)?);
+    let mut count = 0u32;
+    for line in SCHEDULES.split(|it| *it == b'\n') {
+        assert!(rt; answers(rt.alloc(), &space, &commit, line)?);
+        count = count.saturating_add(1);
     }
+    assert_eq!(rt; count, 20);
     Ok(())
 }

@@ -11,7 +11,7 @@ use column_flight::{FlightEvent, FlightKey, FlightState, Flights, Gate, GatePoin
 use field_table::{Field, OutOfMemory};
 use hecke_columns::{Column, Walk};
 use heilbronn_sets::{MatrixSet, merel_set};
-use p1_normal::Level;
+use p1_normal::{Level, gcd};
 use quotient_coords::Space;
 use std::alloc::{AllocError, Global};
 use std::sync::atomic::{AtomicU32, Ordering};
@@ -23,14 +23,13 @@ use turn_board::Pass;
 
 // The quotient at level 11 and characteristic 101, and Merel's set of a determinant.
 fn opened_at_11(alloc: Global, n: u32) -> Result<(Space, MatrixSet), Fail>
-    requires { gcd n 11 ≡ 1 }
     ensures some { IfOk result (λ s. 0 < length (symbols s.0.level)) }
     ensures coprime { IfOk result (λ s. gcd s.1.det s.0.level ≡ 1) }
     ensures merel { IfOk result (λ s. s.1.list ≡ merel_matrices s.1.det) }
 {
     let space = Space::open(alloc, Level::open(alloc, 11)?, Field::open(101)?)?;
-    if space.level().count() == 0 {
-        return Err(OutOfMemory.into());
+    if space.level().count() == 0 || gcd(n, space.level().modulus()) != 1 {
+        return Err(Fail::from("not coprime to 11"));
     }
     Ok((space, merel_set(alloc, n)?))
 }
@@ -282,7 +281,6 @@ fn settle_after_all(
 }
 
 #[test]
-#[tactic(auto, using(column_flight::proofs::Coprime::coprime_2_11))]
 fn a_session_takes_a_column(rt: HostRuntime) -> Result<(), Fail> {
     let alloc = rt.alloc();
     let (space, set) = opened_at_11(alloc, 2)?;
@@ -297,7 +295,6 @@ fn a_session_takes_a_column(rt: HostRuntime) -> Result<(), Fail> {
 
 // A column that is asked for twice is computed once.
 #[test]
-#[tactic(auto, using(column_flight::proofs::Coprime::coprime_2_11))]
 fn a_published_column_is_shared(rt: HostRuntime) -> Result<(), Fail> {
     let alloc = rt.alloc();
     let (space, set) = opened_at_11(alloc, 2)?;
@@ -316,7 +313,6 @@ fn a_published_column_is_shared(rt: HostRuntime) -> Result<(), Fail> {
 
 // Two threads ask for one column, which is computed once.
 #[test]
-#[tactic(auto, using(column_flight::proofs::Coprime::coprime_2_11))]
 fn two_threads_share_a_column(rt: HostRuntime) -> Result<(), Fail> {
     let alloc = rt.alloc();
     let (space, set) = opened_at_11(alloc, 2)?;
@@ -338,7 +334,6 @@ fn two_threads_share_a_column(rt: HostRuntime) -> Result<(), Fail> {
 
 // A session that looks at a column which another one computes is told so at once, and later has it.
 #[test]
-#[tactic(auto, using(column_flight::proofs::Coprime::coprime_2_11))]
 fn a_look_does_not_wait(rt: HostRuntime) -> Result<(), Fail> {
     let alloc = rt.alloc();
     let (space, set) = opened_at_11(alloc, 2)?;
@@ -361,7 +356,6 @@ fn a_look_does_not_wait(rt: HostRuntime) -> Result<(), Fail> {
 
 // A hundred claims are given up, and then one is published.
 #[test]
-#[tactic(auto, using(column_flight::proofs::Coprime::coprime_2_11))]
 fn claims_that_are_given_up_leave_the_key_free(rt: HostRuntime) -> Result<(), Fail> {
     let alloc = rt.alloc();
     let (space, set) = opened_at_11(alloc, 2)?;

@@ -21,11 +21,13 @@ fn needs<T: Send + Sync>(_: &T) {}
 
 // The quotient at level 11 and characteristic 101, and Merel's set of a determinant.
 fn opened_at_11(alloc: Global, n: u32) -> Result<(Space, MatrixSet), Fail>
-    requires { gcd n 11 ≡ 1 }
     ensures coprime { IfOk result (λ s. gcd s.1.det s.0.level ≡ 1) }
     ensures merel { IfOk result (λ s. s.1.list ≡ merel_matrices s.1.det) }
 {
     let space = Space::open(alloc, Level::open(alloc, 11)?, Field::open(101)?)?;
+    if gcd(n, space.level().modulus()) != 1 {
+        return Err(Fail::from("not coprime to 11"));
+    }
     Ok((space, merel_set(alloc, n)?))
 }
 
@@ -34,29 +36,66 @@ fn determinant_of<S: ColumnSource>(source: &S) -> u32 {
     source.determinant()
 }
 
-// At level 11 symbol 0 is (0:1), symbol v + 1 is (1:v), and the free symbols are 0, 3 and 4.
+// The laws are calls of their own.
 #[test]
-#[tactic(auto, using(hecke_columns::proofs::Coprime::coprime_2_11))]
-fn columns_of_two_at_11(rt: HostRuntime) -> Result<(), Fail> {
+fn laws(_rt: HostRuntime) {
     sums_are_linear();
     columns_add_up();
+}
+
+// Whether the column of symbol k over the set has these coordinates.
+fn has_column(
+    alloc: Global,
+    space: &Space,
+    set: &MatrixSet,
+    k: u32,
+    values: &[u32],
+) -> Result<bool, OutOfMemory>
+    requires coprime { gcd set.now.det space.now.level ≡ 1 }
+{
+    if k >= space.level().count() {
+        return Ok(false);
+    }
+    let coords = column_of(alloc, space, set, k)?;
+    Ok(coords.as_slice() == values)
+}
+
+// Whether the column that is made for sharing tells these coordinates, and what it is of.
+fn is_column(
+    alloc: Global,
+    space: &Space,
+    set: &MatrixSet,
+    k: u32,
+    values: &[u32],
+) -> Result<bool, OutOfMemory>
+    requires coprime { gcd set.now.det space.now.level ≡ 1 }
+    requires merel { set.now.list ≡ merel_matrices set.now.det }
+{
+    if k >= space.level().count() {
+        return Ok(false);
+    }
+    let column = Column::compute(alloc, space, set, k)?;
+    needs(&column);
+    Ok(
+        column.coords() == values
+            && (column.modulus(), column.characteristic()) == (11, 101)
+            && (column.n(), column.symbol()) == (set.det(), k),
+    )
+}
+
+// At level 11 symbol 0 is (0:1), symbol v + 1 is (1:v), and the free symbols are 0, 3 and 4.
+#[test]
+fn columns_of_two_at_11(rt: HostRuntime) -> Result<(), Fail> {
     let (space, set) = opened_at_11(rt.alloc(), 2)?;
     for (k, values) in [(0, [3, 1, 0]), (3, [0, 99, 0]), (4, [0, 0, 99])] {
-        assert!(rt; k < space.level().count());
-        let coords = column_of(rt.alloc(), &space, &set, k)?;
-        assert!(rt; coords.as_slice() == values.as_slice(), "at {k}");
-        let column = Column::compute(rt.alloc(), &space, &set, k)?;
-        assert!(rt; column.coords() == values.as_slice(), "at {k}");
-        assert_eq!(rt; (column.modulus(), column.characteristic()), (11, 101));
-        assert_eq!(rt; (column.n(), column.symbol()), (2, k));
-        needs(&column);
+        assert!(rt; has_column(rt.alloc(), &space, &set, k, &values)?, "at {k}");
+        assert!(rt; is_column(rt.alloc(), &space, &set, k, &values)?, "at {k}");
     }
     Ok(())
 }
 
 // Twice the column of symbol 0 is added to 1 0 0.
 #[test]
-#[tactic(auto, using(hecke_columns::proofs::Coprime::coprime_2_11))]
 fn added_column_at_11(rt: HostRuntime) -> Result<(), Fail> {
     let (space, set) = opened_at_11(rt.alloc(), 2)?;
     assert!(rt; 0 < space.level().count());
@@ -73,7 +112,6 @@ fn added_column_at_11(rt: HostRuntime) -> Result<(), Fail> {
 
 // The one matrix of determinant 1 keeps each symbol: these are the symbols' own coordinates, by the relations.
 #[test]
-#[tactic(auto, using(hecke_columns::proofs::Coprime::coprime_1_11))]
 fn columns_of_one_at_11(rt: HostRuntime) -> Result<(), Fail> {
     let (space, set) = opened_at_11(rt.alloc(), 1)?;
     for (k, values) in [
@@ -90,9 +128,7 @@ fn columns_of_one_at_11(rt: HostRuntime) -> Result<(), Fail> {
         (10, [0, 1, 0]),
         (11, [0, 0, 0]),
     ] {
-        assert!(rt; k < space.level().count());
-        let coords = column_of(rt.alloc(), &space, &set, k)?;
-        assert!(rt; coords.as_slice() == values.as_slice(), "at {k}");
+        assert!(rt; has_column(rt.alloc(), &space, &set, k, &values)?, "at {k}");
     }
     Ok(())
 }
@@ -115,9 +151,8 @@ fn is_column_by_chains(
     values: &[u32],
 ) -> Result<bool, OutOfMemory>
     requires limits { (0 < n) × (n ≤ MAX_DET) }
-    requires coprime { gcd n space.now.level ≡ 1 }
 {
-    if k >= space.level().count() {
+    if k >= space.level().count() || gcd(n, space.level().modulus()) != 1 {
         return Ok(false);
     }
     let column = Column::by_chains(alloc, space, n, k)?;
@@ -134,9 +169,8 @@ fn is_column_by_turns(
     values: &[u32],
 ) -> Result<bool, OutOfMemory>
     requires limit { limit ≤ MAX_DET }
-    requires coprime { gcd steps.now space.now.level ≡ 1 }
 {
-    if k >= space.level().count() {
+    if k >= space.level().count() || gcd(steps.n(), space.level().modulus()) != 1 {
         return Ok(false);
     }
     let turns = Turns::of(alloc, space.level(), limit)?;
@@ -146,7 +180,6 @@ fn is_column_by_turns(
 }
 
 #[test]
-#[tactic(auto, using(hecke_columns::proofs::Coprime::coprime_3_11))]
 fn column_of_three_by_chains(rt: HostRuntime) -> Result<(), Fail> {
     let space = space_at_11(rt.alloc())?;
     assert!(rt; is_column_by_chains(rt.alloc(), &space, 3, 0, &[4, 1, 0])?);
@@ -155,7 +188,6 @@ fn column_of_three_by_chains(rt: HostRuntime) -> Result<(), Fail> {
 
 // With quotients up to 3, one more than the table has.
 #[test]
-#[tactic(auto, using(hecke_columns::proofs::Coprime::coprime_3_11))]
 fn column_of_three_by_turns(rt: HostRuntime) -> Result<(), Fail> {
     let space = space_at_11(rt.alloc())?;
     let steps = Steps::of(rt.alloc(), 3)?;
@@ -165,7 +197,6 @@ fn column_of_three_by_turns(rt: HostRuntime) -> Result<(), Fail> {
 }
 
 #[test]
-#[tactic(auto, using(hecke_columns::proofs::Coprime::coprime_6_11))]
 fn column_of_six_by_turns(rt: HostRuntime) -> Result<(), Fail> {
     let space = space_at_11(rt.alloc())?;
     let steps = Steps::of(rt.alloc(), 6)?;
@@ -242,9 +273,8 @@ fn is_column_along(
 ) -> Result<bool, OutOfMemory>
     requires level { walks.now ≡ space.now.level }
     requires limits { (0 < n) × (n ≤ MAX_DET) }
-    requires coprime { gcd n space.now.level ≡ 1 }
 {
-    if k >= space.level().count() {
+    if k >= space.level().count() || gcd(n, space.level().modulus()) != 1 {
         return Ok(false);
     }
     let walk = walks.walk(n);
@@ -269,7 +299,6 @@ fn walks_of_two(alloc: Global, space: &Space, columns: u32) -> Result<Walks, Out
 }
 
 #[test]
-#[tactic(auto, using(hecke_columns::proofs::Coprime::coprime_2_11))]
 fn few_columns_are_made_by_chains(rt: HostRuntime) -> Result<(), Fail> {
     let space = space_at_11(rt.alloc())?;
     let walks = walks_of_two(rt.alloc(), &space, 15)?;
@@ -279,7 +308,6 @@ fn few_columns_are_made_by_chains(rt: HostRuntime) -> Result<(), Fail> {
 }
 
 #[test]
-#[tactic(auto, using(hecke_columns::proofs::Coprime::coprime_2_11))]
 fn many_columns_are_made_by_turns(rt: HostRuntime) -> Result<(), Fail> {
     let space = space_at_11(rt.alloc())?;
     let walks = walks_of_two(rt.alloc(), &space, 16)?;
@@ -291,12 +319,14 @@ fn many_columns_are_made_by_turns(rt: HostRuntime) -> Result<(), Fail> {
 // A source of the columns of symbols 0 and 4.
 fn two_columns(alloc: Global, space: &Space, n: u32) -> Result<GatheredColumns, Fail>
     requires limits { (0 < n) × (n ≤ MAX_DET) }
-    requires coprime { gcd n space.now.level ≡ 1 }
     requires places { 4 < length (symbols space.now.level) }
     ensures setting { IfOk result (λ s. ⟦<GatheredColumns as ColumnSource>⟧.setting s ≡ space.now) }
     ensures first { IfOk result (λ s. ⟦<GatheredColumns as ColumnSource>⟧.can_give s 0 ≡ true) }
     ensures last { IfOk result (λ s. ⟦<GatheredColumns as ColumnSource>⟧.can_give s 4 ≡ true) }
 {
+    if gcd(n, space.level().modulus()) != 1 {
+        return Err(Fail::from("not coprime to the level"));
+    }
     let mut columns = Vec::with_capacity(alloc, 2)?;
     columns.push(Arc::new(alloc, Column::by_chains(alloc, space, n, 0)?)?)?;
     columns.push(Arc::new(alloc, Column::by_chains(alloc, space, n, 4)?)?)?;
@@ -305,7 +335,6 @@ fn two_columns(alloc: Global, space: &Space, n: u32) -> Result<GatheredColumns, 
 
 // Twice the column of symbol 4, which is (1:3), an eigenvector to -2.
 #[test]
-#[tactic(auto, using(hecke_columns::proofs::Coprime::coprime_2_11))]
 fn gathered_columns_at_11(rt: HostRuntime) -> Result<(), Fail> {
     let space = space_at_11(rt.alloc())?;
     assert!(rt; 4 < space.level().count());

@@ -9,6 +9,10 @@ use std::test::Fail;
 // What workers share may be sent and shared.
 fn needs<T: Send + Sync>(_: &T) {}
 
+fn space_at_11(alloc: Global) -> Result<Space, Fail> {
+    Ok(Space::open(alloc, Level::open(alloc, 11)?, Field::open(101)?)?)
+}
+
 // Whether the space has the free symbols 0, 3 and 4.
 fn has_free_symbols(space: &Space) -> bool {
     space.dim() == 3 && space.free(0) == 0 && space.free(1) == 3 && space.free(2) == 4
@@ -127,8 +131,7 @@ fn fails_with(
 // At level 11 symbol 0 is (0:1), and symbol v + 1 is (1:v). The free symbols are 0, 3 and 4.
 #[test]
 fn free_symbols_at_11(rt: HostRuntime) -> Result<(), Fail> {
-    let level = Level::open(rt.alloc(), 11)?;
-    let space = Space::open(rt.alloc(), level, Field::open(101)?)?;
+    let space = space_at_11(rt.alloc())?;
     needs(&space);
     assert!(rt; has_free_symbols(&space));
     Ok(())
@@ -146,8 +149,8 @@ fn no_free_symbol_at_1(rt: HostRuntime) -> Result<(), Fail> {
 // There (1:4) is congruent to (1:3) - (1:2).
 #[test]
 fn coordinates_at_11(rt: HostRuntime) -> Result<(), Fail> {
-    let field = Field::open(101)?;
-    let space = Space::open(rt.alloc(), Level::open(rt.alloc(), 11)?, field)?;
+    let space = space_at_11(rt.alloc())?;
+    let field = space.field();
     let symbol = Combo::from_terms(rt.alloc(), field, &[(5, 1)])?;
     assert!(rt; has_coordinates(rt.alloc(), &space, &symbol, &[0, 100, 1])?);
     Ok(())
@@ -156,8 +159,7 @@ fn coordinates_at_11(rt: HostRuntime) -> Result<(), Fail> {
 // There twice (1:5) and (1:7) less (0:1) is 100 (0:1) + 99 (1:2) + 100 (1:3), also by numbers that are no residues.
 #[test]
 fn coordinates_of_sums_at_11(rt: HostRuntime) -> Result<(), Fail> {
-    let level = Level::open(rt.alloc(), 11)?;
-    let space = Space::open(rt.alloc(), level, Field::open(101)?)?;
+    let space = space_at_11(rt.alloc())?;
     let values = [100, 99, 100];
     let terms = [(6, 1), (0, 100), (8, 1), (6, 1)];
     assert!(rt; has_coordinates_of_terms(rt.alloc(), &space, &terms, &values)?);
@@ -169,8 +171,7 @@ fn coordinates_of_sums_at_11(rt: HostRuntime) -> Result<(), Fail> {
 // It is the combination of the free symbols with its coordinates.
 #[test]
 fn lift_at_11(rt: HostRuntime) -> Result<(), Fail> {
-    let level = Level::open(rt.alloc(), 11)?;
-    let space = Space::open(rt.alloc(), level, Field::open(101)?)?;
+    let space = space_at_11(rt.alloc())?;
     assert!(rt; has_lift(rt.alloc(), &space, &[0, 100, 1], &[(3, 100), (4, 1)])?);
     Ok(())
 }
@@ -178,8 +179,8 @@ fn lift_at_11(rt: HostRuntime) -> Result<(), Fail> {
 // There relation 15 less relation 4 is (1:4) - (1:3) + (1:2).
 #[test]
 fn certificate_at_11(rt: HostRuntime) -> Result<(), Fail> {
-    let field = Field::open(101)?;
-    let space = Space::open(rt.alloc(), Level::open(rt.alloc(), 11)?, field)?;
+    let space = space_at_11(rt.alloc())?;
+    let field = space.field();
     let symbol = Combo::from_terms(rt.alloc(), field, &[(5, 1)])?;
     let certificate = certified(rt.alloc(), &space, &symbol)?;
     assert!(rt; certificate.is_some());
@@ -193,8 +194,8 @@ fn certificate_at_11(rt: HostRuntime) -> Result<(), Fail> {
 // These are its coefficients over the kept relations, which are nine.
 #[test]
 fn kept_coefficients_at_11(rt: HostRuntime) -> Result<(), Fail> {
-    let field = Field::open(101)?;
-    let space = Space::open(rt.alloc(), Level::open(rt.alloc(), 11)?, field)?;
+    let space = space_at_11(rt.alloc())?;
+    let field = space.field();
     assert!(rt; space.kept() == [0, 2, 3, 4, 5, 7, 12, 14, 15].as_slice());
     let symbol = Combo::from_terms(rt.alloc(), field, &[(5, 1)])?;
     assert!(rt; has_kept_coefficients(rt.alloc(), &space, &symbol, &[(4, 100), (15, 1)])?);
@@ -204,8 +205,8 @@ fn kept_coefficients_at_11(rt: HostRuntime) -> Result<(), Fail> {
 // The certificate fails with another coefficient.
 #[test]
 fn wrong_coefficient_at_11(rt: HostRuntime) -> Result<(), Fail> {
-    let field = Field::open(101)?;
-    let space = Space::open(rt.alloc(), Level::open(rt.alloc(), 11)?, field)?;
+    let space = space_at_11(rt.alloc())?;
+    let field = space.field();
     let symbol = Combo::from_terms(rt.alloc(), field, &[(5, 1)])?;
     let trace = Combo::from_terms(rt.alloc(), field, &[(4, -1), (15, 2)])?;
     assert!(rt; fails_with(rt.alloc(), &space, &symbol, trace)?);
@@ -215,8 +216,8 @@ fn wrong_coefficient_at_11(rt: HostRuntime) -> Result<(), Fail> {
 // It fails with 102 for 1, which is no residue.
 #[test]
 fn unreduced_coefficient_at_11(rt: HostRuntime) -> Result<(), Fail> {
-    let field = Field::open(101)?;
-    let space = Space::open(rt.alloc(), Level::open(rt.alloc(), 11)?, field)?;
+    let space = space_at_11(rt.alloc())?;
+    let field = space.field();
     let symbol = Combo::from_terms(rt.alloc(), field, &[(5, 1)])?;
     let trace = Combo::from_terms(rt.alloc(), Field::open(65521)?, &[(4, 100), (15, 102)])?;
     assert!(rt; fails_with(rt.alloc(), &space, &symbol, trace)?);

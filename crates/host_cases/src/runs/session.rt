@@ -9,7 +9,7 @@ use host_workers::{NoGate, run_session};
 use p1_normal::Level;
 use quotient_coords::Space;
 use reply_text::{History, SessionReplies, Sessions, Transcript, write_transcript};
-use script_text::{MAX_COMMANDS, ScriptFault, SessionText, parse_script};
+use script_text::{MAX_COMMANDS, Script, ScriptFault, SessionText, parse_script};
 use split_versions::{VersionState, Versions};
 use std::alloc::{AllocError, Global};
 use std::sync::Wait;
@@ -111,24 +111,38 @@ fn answered_alone<R: Wait>(
     })
 }
 
-// Whether the worker of the one session of a script at level 11 and characteristic 101 gives this text.
-fn gives<R: Wait>(rt: &R, alloc: Global, script: &[u8], text: &[u8]) -> Result<bool, Fail> {
+// The script that the bytes are.
+fn read(alloc: Global, script: &[u8]) -> Result<Script, Fail> {
     if script.len() > 1000 {
         return Err("too long".into());
     }
-    let script = match parse_script(alloc, script) {
-        Ok(script) => script,
-        Err(ScriptFault::OutOfMemory) => return Err("there was no memory".into()),
-        Err(ScriptFault::BadScript { .. }) => return Err("it is no script".into()),
-    };
+    match parse_script(alloc, script) {
+        Ok(script) => Ok(script),
+        Err(ScriptFault::OutOfMemory) => Err("there was no memory".into()),
+        Err(ScriptFault::BadScript { .. }) => Err("it is no script".into()),
+    }
+}
+
+fn space_at_11(alloc: Global) -> Result<Space, Fail> {
+    Ok(Space::open(alloc, Level::open(alloc, 11)?, Field::open(101)?)?)
+}
+
+// Whether the transcript is written as this text.
+fn is_text(alloc: Global, transcript: &Transcript, text: &[u8]) -> Result<bool, Fail> {
+    let mut output = MemSink::new(alloc, 1000, 64, Vec::new(alloc))?;
+    write_transcript(transcript, &mut output)?;
+    Ok(output.bytes() == text)
+}
+
+// Whether the worker of the one session of a script at level 11 and characteristic 101 gives this text.
+fn gives<R: Wait>(rt: &R, alloc: Global, script: &[u8], text: &[u8]) -> Result<bool, Fail> {
+    let script = read(alloc, script)?;
     let [session] = script.sessions() else {
         return Err("it has not one session".into());
     };
-    let space = Space::open(alloc, Level::open(alloc, 11)?, Field::open(101)?)?;
+    let space = space_at_11(alloc)?;
     let transcript = answered_alone(rt, alloc, &space, session)?;
-    let mut output = MemSink::new(alloc, 1000, 64, Vec::new(alloc))?;
-    write_transcript(&transcript, &mut output)?;
-    Ok(output.bytes() == text)
+    is_text(alloc, &transcript, text)
 }
 
 const POINTS: &[u8] = b"space 11 101\nsession\nnormal 22 7\nnormal 3 1\nnormal 0 0\n";
