@@ -1,4 +1,4 @@
-ghost use Rattle.std.specs.Prelude.{◌≡◌, ◌<◌, ◌^◌, IfOk, IfSome, length};
+ghost use Rattle.std.specs.Prelude.{◌≡◌, ◌<◌, ◌^◌, ◌↔◌, IfOk, IfSome, IsTrue, Contains, length};
 ghost use Rattle.dense_mat.specs.Echelon.{AreRows};
 ghost use Rattle.dense_mat.specs.Matrix.{IsMatrix};
 ghost use Rattle.field_table.specs.Residues.{AreResidues};
@@ -79,6 +79,13 @@ fn matrix_of<const N: usize>(
     Mat::from_columns(alloc, field, &list)
 }
 
+// Whether the operator is listed.
+fn is_listed(names: &[OpName], op: OpName) -> bool
+    ensures { IsTrue result ↔ Contains names.now op }
+{
+    names.contains(&op)
+}
+
 // The step by an operator that is new to the splitting, or none where its name is listed.
 fn step(
     alloc: Global,
@@ -92,7 +99,7 @@ fn step(
     ensures { IfOk result (λ some.
         IfSome some (λ r. r.characteristic ≡ splitting.now.characteristic)) }
 {
-    if splitting.dim() != mat.size() || splitting.ops().contains(&op) {
+    if splitting.dim() != mat.size() || is_listed(splitting.ops(), op) {
         return Ok(None);
     }
     let refined = splitting.refine(alloc, op, mat, poly)?;
