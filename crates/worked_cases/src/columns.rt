@@ -4,13 +4,14 @@ ghost use Rattle.p1_normal.specs.declared.matrix.TheConstants.{MAX_DET};
 ghost use Rattle.p1_normal.specs.Points.{symbols};
 ghost use Rattle.p1_normal.specs.Units.{gcd};
 
-use field_table::{Field, OutOfMemory};
+use crate::spaces::space_at;
+use field_table::OutOfMemory;
 use hecke_columns::{
     Column, ColumnSource, GatheredColumns, LocalColumns, Steps, Turns, Walk, Walks, column_of,
     columns_add_up, sums_are_linear,
 };
 use heilbronn_sets::{MatrixSet, merel_set};
-use p1_normal::{Level, MAX_DET, gcd};
+use p1_normal::{MAX_DET, gcd};
 use quotient_coords::Space;
 use std::alloc::Global;
 use std::sync::Arc;
@@ -18,18 +19,6 @@ use std::test::Fail;
 
 // What workers share may be sent and shared.
 fn needs<T: Send + Sync>(_: &T) {}
-
-// The quotient at level 11 and characteristic 101, and Merel's set of a determinant.
-fn opened_at_11(alloc: Global, n: u32) -> Result<(Space, MatrixSet), Fail>
-    ensures coprime { IfOk result (λ s. gcd s.1.det s.0.level ≡ 1) }
-    ensures merel { IfOk result (λ s. s.1.list ≡ merel_matrices s.1.det) }
-{
-    let space = Space::open(alloc, Level::open(alloc, 11)?, Field::open(101)?)?;
-    if gcd(n, space.level().modulus()) != 1 {
-        return Err(Fail::from("not coprime to 11"));
-    }
-    Ok((space, merel_set(alloc, n)?))
-}
 
 // What any source says of its matrices.
 fn determinant_of<S: ColumnSource>(source: &S) -> u32 {
@@ -43,77 +32,79 @@ fn laws(_rt: HostRuntime) {
     columns_add_up();
 }
 
-// Whether the column of symbol k over the set has these coordinates.
-fn has_column(
-    alloc: Global,
-    space: &Space,
-    set: &MatrixSet,
-    k: u32,
-    values: &[u32],
-) -> Result<bool, OutOfMemory>
-    requires coprime { gcd set.now.det space.now.level ≡ 1 }
-{
-    if k >= space.level().count() {
+// Whether the column of symbol k over Merel's set of n has these coordinates.
+fn has_column(alloc: Global, space: &Space, n: u32, k: u32, values: &[u32]) -> Result<bool, Fail> {
+    let set = merel_set(alloc, n)?;
+    if k >= space.level().count() || gcd(set.det(), space.level().modulus()) != 1 {
         return Ok(false);
     }
-    let coords = column_of(alloc, space, set, k)?;
+    let coords = column_of(alloc, space, &set, k)?;
     Ok(coords.as_slice() == values)
 }
 
 // Whether the column that is made for sharing tells these coordinates, and what it is of.
-fn is_column(
-    alloc: Global,
-    space: &Space,
-    set: &MatrixSet,
-    k: u32,
-    values: &[u32],
-) -> Result<bool, OutOfMemory>
-    requires coprime { gcd set.now.det space.now.level ≡ 1 }
-    requires merel { set.now.list ≡ merel_matrices set.now.det }
-{
-    if k >= space.level().count() {
+fn is_column(alloc: Global, space: &Space, n: u32, k: u32, values: &[u32]) -> Result<bool, Fail> {
+    let set = merel_set(alloc, n)?;
+    if k >= space.level().count() || gcd(set.det(), space.level().modulus()) != 1 {
         return Ok(false);
     }
-    let column = Column::compute(alloc, space, set, k)?;
+    let column = Column::compute(alloc, space, &set, k)?;
     needs(&column);
     Ok(
         column.coords() == values
             && (column.modulus(), column.characteristic()) == (11, 101)
-            && (column.n(), column.symbol()) == (set.det(), k),
+            && (column.n(), column.symbol()) == (n, k),
     )
 }
 
 // At level 11 symbol 0 is (0:1), symbol v + 1 is (1:v), and the free symbols are 0, 3 and 4.
 #[test]
 fn columns_of_two_at_11(rt: HostRuntime) -> Result<(), Fail> {
-    let (space, set) = opened_at_11(rt.alloc(), 2)?;
+    let space = space_at(rt.alloc(), 11, 101)?;
     for (k, values) in [(0, [3, 1, 0]), (3, [0, 99, 0]), (4, [0, 0, 99])] {
-        assert!(rt; has_column(rt.alloc(), &space, &set, k, &values)?, "at {k}");
-        assert!(rt; is_column(rt.alloc(), &space, &set, k, &values)?, "at {k}");
+        assert!(rt; has_column(rt.alloc(), &space, 2, k, &values)?, "at {k}");
+        assert!(rt; is_column(rt.alloc(), &space, 2, k, &values)?, "at {k}");
     }
     Ok(())
+}
+
+// The column of symbol k over Merel's set of 2 added so often to three values, where they are coordinates.
+fn added(
+    alloc: Global,
+    space: &Space,
+    k: u32,
+    coefficient: u32,
+    mut values: [u32; 3],
+) -> Result<Option<[u32; 3]>, Fail> {
+    let p = space.field().characteristic();
+    let set = merel_set(alloc, 2)?;
+    if k >= space.level().count() || gcd(set.det(), space.level().modulus()) != 1 {
+        return Ok(None);
+    }
+    if space.dim() != 3 || coefficient >= p || !values.iter().all(|value| *value < p) {
+        return Ok(None);
+    }
+    let mut source = LocalColumns::new(space, &set);
+    needs(&source);
+    source.add_column(alloc, k, coefficient, &mut values)?;
+    Ok(Some(values))
 }
 
 // Twice the column of symbol 0 is added to 1 0 0.
 #[test]
 fn added_column_at_11(rt: HostRuntime) -> Result<(), Fail> {
-    let (space, set) = opened_at_11(rt.alloc(), 2)?;
-    assert!(rt; 0 < space.level().count());
-    let mut sum = [1, 0, 0];
-    assert_eq!(rt; sum.len(), space.dim() as usize);
-    assert!(rt; 2 < space.field().characteristic());
-    let mut source = LocalColumns::new(&space, &set);
-    needs(&source);
-    assert_eq!(rt; determinant_of(&source), 2);
-    source.add_column(rt.alloc(), 0, 2, &mut sum)?;
-    assert!(rt; sum == [7, 2, 0]);
+    let space = space_at(rt.alloc(), 11, 101)?;
+    assert_eq!(rt;
+        added(rt.alloc(), &space, 0, 2, [1, 0, 0])?,
+        Some([7, 2, 0])
+    );
     Ok(())
 }
 
 // The one matrix of determinant 1 keeps each symbol: these are the symbols' own coordinates, by the relations.
 #[test]
 fn columns_of_one_at_11(rt: HostRuntime) -> Result<(), Fail> {
-    let (space, set) = opened_at_11(rt.alloc(), 1)?;
+    let space = space_at(rt.alloc(), 11, 101)?;
     for (k, values) in [
         (0, [1, 0, 0]),
         (1, [100, 0, 0]),
@@ -128,18 +119,9 @@ fn columns_of_one_at_11(rt: HostRuntime) -> Result<(), Fail> {
         (10, [0, 1, 0]),
         (11, [0, 0, 0]),
     ] {
-        assert!(rt; has_column(rt.alloc(), &space, &set, k, &values)?, "at {k}");
+        assert!(rt; has_column(rt.alloc(), &space, 1, k, &values)?, "at {k}");
     }
     Ok(())
-}
-
-// The quotient at level 11 and characteristic 101.
-fn space_at_11(alloc: Global) -> Result<Space, Fail>
-    ensures level { IfOk result (λ s. s.level ≡ 11) }
-{
-    let level = Level::open(alloc, 11)?;
-    let field = Field::open(101)?;
-    Ok(Space::open(alloc, level, field)?)
 }
 
 // Whether the column of symbol k over Merel's set of determinant n is this one, by chains.
@@ -149,10 +131,8 @@ fn is_column_by_chains(
     n: u32,
     k: u32,
     values: &[u32],
-) -> Result<bool, OutOfMemory>
-    requires limits { (0 < n) × (n ≤ MAX_DET) }
-{
-    if k >= space.level().count() || gcd(n, space.level().modulus()) != 1 {
+) -> Result<bool, OutOfMemory> {
+    if n == 0 || n > MAX_DET || k >= space.level().count() || gcd(n, space.level().modulus()) != 1 {
         return Ok(false);
     }
     let column = Column::by_chains(alloc, space, n, k)?;
@@ -163,25 +143,27 @@ fn is_column_by_chains(
 fn is_column_by_turns(
     alloc: Global,
     space: &Space,
-    steps: &Steps,
-    limit: u32,
+    (n, limit): (u32, u32),
     k: u32,
     values: &[u32],
-) -> Result<bool, OutOfMemory>
-    requires limit { limit ≤ MAX_DET }
-{
-    if k >= space.level().count() || gcd(steps.n(), space.level().modulus()) != 1 {
+) -> Result<bool, Fail> {
+    let steps = Steps::of(alloc, n)?;
+    needs(&steps);
+    if limit > MAX_DET
+        || k >= space.level().count()
+        || gcd(steps.n(), space.level().modulus()) != 1
+    {
         return Ok(false);
     }
     let turns = Turns::of(alloc, space.level(), limit)?;
     needs(&turns);
-    let column = Column::by_turns(alloc, space, &turns, steps, k)?;
-    Ok(column.n() == steps.n() && column.symbol() == k && column.coords() == values)
+    let column = Column::by_turns(alloc, space, &turns, &steps, k)?;
+    Ok(column.n() == n && column.symbol() == k && column.coords() == values)
 }
 
 #[test]
 fn column_of_three_by_chains(rt: HostRuntime) -> Result<(), Fail> {
-    let space = space_at_11(rt.alloc())?;
+    let space = space_at(rt.alloc(), 11, 101)?;
     assert!(rt; is_column_by_chains(rt.alloc(), &space, 3, 0, &[4, 1, 0])?);
     Ok(())
 }
@@ -189,18 +171,15 @@ fn column_of_three_by_chains(rt: HostRuntime) -> Result<(), Fail> {
 // With quotients up to 3, one more than the table has.
 #[test]
 fn column_of_three_by_turns(rt: HostRuntime) -> Result<(), Fail> {
-    let space = space_at_11(rt.alloc())?;
-    let steps = Steps::of(rt.alloc(), 3)?;
-    needs(&steps);
-    assert!(rt; is_column_by_turns(rt.alloc(), &space, &steps, 2, 0, &[4, 1, 0])?);
+    let space = space_at(rt.alloc(), 11, 101)?;
+    assert!(rt; is_column_by_turns(rt.alloc(), &space, (3, 2), 0, &[4, 1, 0])?);
     Ok(())
 }
 
 #[test]
 fn column_of_six_by_turns(rt: HostRuntime) -> Result<(), Fail> {
-    let space = space_at_11(rt.alloc())?;
-    let steps = Steps::of(rt.alloc(), 6)?;
-    assert!(rt; is_column_by_turns(rt.alloc(), &space, &steps, 6, 4, &[0, 0, 2])?);
+    let space = space_at(rt.alloc(), 11, 101)?;
+    assert!(rt; is_column_by_turns(rt.alloc(), &space, (6, 6), 4, &[0, 0, 2])?);
     Ok(())
 }
 
@@ -243,9 +222,7 @@ fn all_columns_agree(alloc: Global, space: &Space, n: u32) -> Result<bool, Fail>
 
 // The same of all numbers up to 60 that are coprime to the level.
 fn agree_at(alloc: Global, modulus: u32) -> Result<bool, Fail> {
-    let level = Level::open(alloc, modulus)?;
-    let field = Field::open(65521)?;
-    let space = Space::open(alloc, level, field)?;
+    let space = space_at(alloc, modulus, 65521)?;
     for n in 1..61 {
         if gcd(n, space.level().modulus()) == 1 && !all_columns_agree(alloc, &space, n)? {
             return Ok(false);
@@ -262,71 +239,79 @@ fn columns_agree_at_ten_levels(rt: HostRuntime) -> Result<(), Fail> {
     Ok(())
 }
 
-// Whether the column of symbol k along the walk of determinant n is this one.
-fn is_column_along(
+// Whether the walk of determinant n that is readied for so many columns is by turns, where the column of symbol k along
+// it has these coordinates.
+fn is_by_turns(
     alloc: Global,
     space: &Space,
-    walks: &Walks,
-    n: u32,
+    (n, columns): (u32, u32),
     k: u32,
     values: &[u32],
-) -> Result<bool, OutOfMemory>
-    requires level { walks.now ≡ space.now.level }
-    requires limits { (0 < n) × (n ≤ MAX_DET) }
-{
-    if k >= space.level().count() || gcd(n, space.level().modulus()) != 1 {
-        return Ok(false);
+) -> Result<Option<bool>, OutOfMemory> {
+    if n == 0 || n > MAX_DET || k >= space.level().count() || gcd(n, space.level().modulus()) != 1 {
+        return Ok(None);
     }
+    let mut walks = Walks::new(alloc, space.level());
+    walks.hold(alloc, space.level(), n, columns)?;
     let walk = walks.walk(n);
     let column = walk.column(alloc, space, k)?;
-    Ok(walk.n() == n && column.n() == n && column.coords() == values)
-}
-
-// Whether the walk of determinant n is by turns.
-fn is_by_turns(walks: &Walks, n: u32) -> bool
-    requires limits { (0 < n) × (n ≤ MAX_DET) }
-{
-    matches!(walks.walk(n), Walk::Turns { .. })
-}
-
-// Walks at level 11 that are readied for so many columns of determinant 2.
-fn walks_of_two(alloc: Global, space: &Space, columns: u32) -> Result<Walks, OutOfMemory>
-    ensures { IfOk result (λ walks. walks ≡ space.now.level) }
-{
-    let mut walks = Walks::new(alloc, space.level());
-    walks.hold(alloc, space.level(), 2, columns)?;
-    Ok(walks)
+    if walk.n() != n || column.n() != n || column.coords() != values {
+        return Ok(None);
+    }
+    Ok(Some(matches!(walk, Walk::Turns { .. })))
 }
 
 #[test]
 fn few_columns_are_made_by_chains(rt: HostRuntime) -> Result<(), Fail> {
-    let space = space_at_11(rt.alloc())?;
-    let walks = walks_of_two(rt.alloc(), &space, 15)?;
-    assert!(rt; !is_by_turns(&walks, 2));
-    assert!(rt; is_column_along(rt.alloc(), &space, &walks, 2, 0, &[3, 1, 0])?);
+    let space = space_at(rt.alloc(), 11, 101)?;
+    assert_eq!(rt;
+        is_by_turns(rt.alloc(), &space, (2, 15), 0, &[3, 1, 0])?,
+        Some(false)
+    );
     Ok(())
 }
 
 #[test]
 fn many_columns_are_made_by_turns(rt: HostRuntime) -> Result<(), Fail> {
-    let space = space_at_11(rt.alloc())?;
-    let walks = walks_of_two(rt.alloc(), &space, 16)?;
-    assert!(rt; is_by_turns(&walks, 2));
-    assert!(rt; is_column_along(rt.alloc(), &space, &walks, 2, 0, &[3, 1, 0])?);
+    let space = space_at(rt.alloc(), 11, 101)?;
+    assert_eq!(rt;
+        is_by_turns(rt.alloc(), &space, (2, 16), 0, &[3, 1, 0])?,
+        Some(true)
+    );
     Ok(())
+}
+
+// The column of symbol k from a source of the columns of symbols 0 and 4, added so often to three values, where they are
+// coordinates and the source has it.
+fn added_from_two(
+    alloc: Global,
+    space: &Space,
+    coefficient: u32,
+    mut values: [u32; 3],
+) -> Result<Option<[u32; 3]>, Fail> {
+    let p = space.field().characteristic();
+    if space.level().count() <= 4 || gcd(2, space.level().modulus()) != 1 {
+        return Ok(None);
+    }
+    if space.dim() != 3 || coefficient >= p || !values.iter().all(|value| *value < p) {
+        return Ok(None);
+    }
+    let mut source = two_columns(alloc, space, 2)?;
+    if determinant_of(&source) != 2 {
+        return Ok(None);
+    }
+    source.add_column(alloc, 4, coefficient, &mut values)?;
+    Ok(Some(values))
 }
 
 // A source of the columns of symbols 0 and 4.
 fn two_columns(alloc: Global, space: &Space, n: u32) -> Result<GatheredColumns, Fail>
     requires limits { (0 < n) × (n ≤ MAX_DET) }
+    requires coprime { gcd n space.now.level ≡ 1 }
     requires places { 4 < length (symbols space.now.level) }
     ensures setting { IfOk result (λ s. ⟦<GatheredColumns as ColumnSource>⟧.setting s ≡ space.now) }
-    ensures first { IfOk result (λ s. ⟦<GatheredColumns as ColumnSource>⟧.can_give s 0 ≡ true) }
     ensures last { IfOk result (λ s. ⟦<GatheredColumns as ColumnSource>⟧.can_give s 4 ≡ true) }
 {
-    if gcd(n, space.level().modulus()) != 1 {
-        return Err(Fail::from("not coprime to the level"));
-    }
     let mut columns = Vec::with_capacity(alloc, 2)?;
     columns.push(Arc::new(alloc, Column::by_chains(alloc, space, n, 0)?)?)?;
     columns.push(Arc::new(alloc, Column::by_chains(alloc, space, n, 4)?)?)?;
@@ -336,14 +321,10 @@ fn two_columns(alloc: Global, space: &Space, n: u32) -> Result<GatheredColumns, 
 // Twice the column of symbol 4, which is (1:3), an eigenvector to -2.
 #[test]
 fn gathered_columns_at_11(rt: HostRuntime) -> Result<(), Fail> {
-    let space = space_at_11(rt.alloc())?;
-    assert!(rt; 4 < space.level().count());
-    let mut sum = [1, 0, 0];
-    assert_eq!(rt; sum.len(), space.dim() as usize);
-    assert!(rt; 2 < space.field().characteristic());
-    let mut source = two_columns(rt.alloc(), &space, 2)?;
-    assert_eq!(rt; determinant_of(&source), 2);
-    source.add_column(rt.alloc(), 4, 2, &mut sum)?;
-    assert!(rt; sum == [1, 0, 97]);
+    let space = space_at(rt.alloc(), 11, 101)?;
+    assert_eq!(rt;
+        added_from_two(rt.alloc(), &space, 2, [1, 0, 0])?,
+        Some([1, 0, 97])
+    );
     Ok(())
 }

@@ -1,5 +1,5 @@
+use crate::spaces::space_at;
 use field_table::{Combo, Field, OutOfMemory};
-use p1_normal::Level;
 use quotient_coords::{
     Certificate, Space, certificates_give_coordinates, coordinates_and_traces_are_unique,
 };
@@ -9,8 +9,9 @@ use std::test::Fail;
 // What workers share may be sent and shared.
 fn needs<T: Send + Sync>(_: &T) {}
 
-fn space_at_11(alloc: Global) -> Result<Space, Fail> {
-    Ok(Space::open(alloc, Level::open(alloc, 11)?, Field::open(101)?)?)
+// Symbol 5 alone.
+fn symbol_5(alloc: Global, space: &Space) -> Result<Combo, OutOfMemory> {
+    Combo::from_terms(alloc, space.field(), &[(5, 1)])
 }
 
 // Whether the space has the free symbols 0, 3 and 4.
@@ -110,6 +111,11 @@ fn has_trace(space: &Space, certificate: &Certificate, trace: &[(u32, u32)]) -> 
     space.check(certificate) && certificate.trace.terms() == trace
 }
 
+// A trace of these residues.
+fn trace_of(alloc: Global, p: u32, terms: &[(u32, i64)]) -> Result<Combo, Fail> {
+    Ok(Combo::from_terms(alloc, Field::open(p)?, terms)?)
+}
+
 // Whether the combination has a certificate, and it fails the check with this trace.
 fn fails_with(
     alloc: Global,
@@ -131,7 +137,7 @@ fn fails_with(
 // At level 11 symbol 0 is (0:1), and symbol v + 1 is (1:v). The free symbols are 0, 3 and 4.
 #[test]
 fn free_symbols_at_11(rt: HostRuntime) -> Result<(), Fail> {
-    let space = space_at_11(rt.alloc())?;
+    let space = space_at(rt.alloc(), 11, 101)?;
     needs(&space);
     assert!(rt; has_free_symbols(&space));
     Ok(())
@@ -140,8 +146,7 @@ fn free_symbols_at_11(rt: HostRuntime) -> Result<(), Fail> {
 // The point of level 1 is congruent to 0.
 #[test]
 fn no_free_symbol_at_1(rt: HostRuntime) -> Result<(), Fail> {
-    let level = Level::open(rt.alloc(), 1)?;
-    let space = Space::open(rt.alloc(), level, Field::open(101)?)?;
+    let space = space_at(rt.alloc(), 1, 101)?;
     assert_eq!(rt; space.dim(), 0);
     Ok(())
 }
@@ -149,9 +154,8 @@ fn no_free_symbol_at_1(rt: HostRuntime) -> Result<(), Fail> {
 // There (1:4) is congruent to (1:3) - (1:2).
 #[test]
 fn coordinates_at_11(rt: HostRuntime) -> Result<(), Fail> {
-    let space = space_at_11(rt.alloc())?;
-    let field = space.field();
-    let symbol = Combo::from_terms(rt.alloc(), field, &[(5, 1)])?;
+    let space = space_at(rt.alloc(), 11, 101)?;
+    let symbol = symbol_5(rt.alloc(), &space)?;
     assert!(rt; has_coordinates(rt.alloc(), &space, &symbol, &[0, 100, 1])?);
     Ok(())
 }
@@ -159,7 +163,7 @@ fn coordinates_at_11(rt: HostRuntime) -> Result<(), Fail> {
 // There twice (1:5) and (1:7) less (0:1) is 100 (0:1) + 99 (1:2) + 100 (1:3), also by numbers that are no residues.
 #[test]
 fn coordinates_of_sums_at_11(rt: HostRuntime) -> Result<(), Fail> {
-    let space = space_at_11(rt.alloc())?;
+    let space = space_at(rt.alloc(), 11, 101)?;
     let values = [100, 99, 100];
     let terms = [(6, 1), (0, 100), (8, 1), (6, 1)];
     assert!(rt; has_coordinates_of_terms(rt.alloc(), &space, &terms, &values)?);
@@ -171,7 +175,7 @@ fn coordinates_of_sums_at_11(rt: HostRuntime) -> Result<(), Fail> {
 // It is the combination of the free symbols with its coordinates.
 #[test]
 fn lift_at_11(rt: HostRuntime) -> Result<(), Fail> {
-    let space = space_at_11(rt.alloc())?;
+    let space = space_at(rt.alloc(), 11, 101)?;
     assert!(rt; has_lift(rt.alloc(), &space, &[0, 100, 1], &[(3, 100), (4, 1)])?);
     Ok(())
 }
@@ -179,9 +183,8 @@ fn lift_at_11(rt: HostRuntime) -> Result<(), Fail> {
 // There relation 15 less relation 4 is (1:4) - (1:3) + (1:2).
 #[test]
 fn certificate_at_11(rt: HostRuntime) -> Result<(), Fail> {
-    let space = space_at_11(rt.alloc())?;
-    let field = space.field();
-    let symbol = Combo::from_terms(rt.alloc(), field, &[(5, 1)])?;
+    let space = space_at(rt.alloc(), 11, 101)?;
+    let symbol = symbol_5(rt.alloc(), &space)?;
     let certificate = certified(rt.alloc(), &space, &symbol)?;
     assert!(rt; certificate.is_some());
     if let Some(certificate) = certificate {
@@ -194,10 +197,9 @@ fn certificate_at_11(rt: HostRuntime) -> Result<(), Fail> {
 // These are its coefficients over the kept relations, which are nine.
 #[test]
 fn kept_coefficients_at_11(rt: HostRuntime) -> Result<(), Fail> {
-    let space = space_at_11(rt.alloc())?;
-    let field = space.field();
+    let space = space_at(rt.alloc(), 11, 101)?;
     assert!(rt; space.kept() == [0, 2, 3, 4, 5, 7, 12, 14, 15].as_slice());
-    let symbol = Combo::from_terms(rt.alloc(), field, &[(5, 1)])?;
+    let symbol = symbol_5(rt.alloc(), &space)?;
     assert!(rt; has_kept_coefficients(rt.alloc(), &space, &symbol, &[(4, 100), (15, 1)])?);
     Ok(())
 }
@@ -205,10 +207,9 @@ fn kept_coefficients_at_11(rt: HostRuntime) -> Result<(), Fail> {
 // The certificate fails with another coefficient.
 #[test]
 fn wrong_coefficient_at_11(rt: HostRuntime) -> Result<(), Fail> {
-    let space = space_at_11(rt.alloc())?;
-    let field = space.field();
-    let symbol = Combo::from_terms(rt.alloc(), field, &[(5, 1)])?;
-    let trace = Combo::from_terms(rt.alloc(), field, &[(4, -1), (15, 2)])?;
+    let space = space_at(rt.alloc(), 11, 101)?;
+    let symbol = symbol_5(rt.alloc(), &space)?;
+    let trace = trace_of(rt.alloc(), 101, &[(4, -1), (15, 2)])?;
     assert!(rt; fails_with(rt.alloc(), &space, &symbol, trace)?);
     Ok(())
 }
@@ -216,10 +217,9 @@ fn wrong_coefficient_at_11(rt: HostRuntime) -> Result<(), Fail> {
 // It fails with 102 for 1, which is no residue.
 #[test]
 fn unreduced_coefficient_at_11(rt: HostRuntime) -> Result<(), Fail> {
-    let space = space_at_11(rt.alloc())?;
-    let field = space.field();
-    let symbol = Combo::from_terms(rt.alloc(), field, &[(5, 1)])?;
-    let trace = Combo::from_terms(rt.alloc(), Field::open(65521)?, &[(4, 100), (15, 102)])?;
+    let space = space_at(rt.alloc(), 11, 101)?;
+    let symbol = symbol_5(rt.alloc(), &space)?;
+    let trace = trace_of(rt.alloc(), 65521, &[(4, 100), (15, 102)])?;
     assert!(rt; fails_with(rt.alloc(), &space, &symbol, trace)?);
     Ok(())
 }

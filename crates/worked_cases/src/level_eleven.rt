@@ -1,4 +1,5 @@
 use crate::ranges::are_below;
+use crate::spaces::space_at;
 use field_table::{CHARACTERISTICS, Combo, Field, OutOfMemory};
 use manin_relations::Relations;
 use p1_normal::Level;
@@ -60,11 +61,6 @@ fn the_row_of_symbol_five_has_its_terms(rt: HostRuntime) -> Result<(), Fail> {
     Ok(())
 }
 
-// The space in a characteristic.
-fn space_in(alloc: Global, p: u32) -> Result<Space, Fail> {
-    Ok(Space::open(alloc, Level::open(alloc, 11)?, Field::open(p)?)?)
-}
-
 // Whether the space has the free symbols 0, 3 and 4.
 fn has_free_symbols(space: &Space) -> bool {
     space.dim() == 3 && space.free(0) == 0 && space.free(1) == 3 && space.free(2) == 4
@@ -91,7 +87,7 @@ fn has_coordinates(
 #[test]
 fn symbols_have_their_coordinates_in_every_characteristic(rt: HostRuntime) -> Result<(), Fail> {
     for p in CHARACTERISTICS {
-        let space = space_in(rt.alloc(), p)?;
+        let space = space_at(rt.alloc(), 11, p)?;
         assert!(rt; has_free_symbols(&space), "at {p}");
         for (k, expected) in SYMBOLS {
             assert!(rt;

@@ -40,4 +40,6 @@ mod ranges;
 #[cfg(test)]
 mod relations;
 #[cfg(test)]
+mod spaces;
+#[cfg(test)]
 mod stars;

@@ -1,14 +1,10 @@
+use crate::spaces::space_at;
 use dense_mat::Mat;
 use field_table::{Combo, Field, OutOfMemory};
 use p1_normal::Level;
-use quotient_coords::Space;
 use star_map::{star, star_is_linear, star_keeps_congruence, star_matrix, star_matrix_gives_stars};
 use std::alloc::Global;
 use std::test::Fail;
-
-fn space_at_11(alloc: Global) -> Result<Space, Fail> {
-    Ok(Space::open(alloc, Level::open(alloc, 11)?, Field::open(101)?)?)
-}
 
 // Star of the terms, if they are symbols.
 fn star_of(
@@ -56,7 +52,7 @@ fn star_at_11(rt: HostRuntime) -> Result<(), Fail> {
 // At level 11 modulo 101 star sends 0 0 1 to 0 1 100, and its trace is 1.
 #[test]
 fn star_matrix_at_11(rt: HostRuntime) -> Result<(), Fail> {
-    let space = space_at_11(rt.alloc())?;
+    let space = space_at(rt.alloc(), 11, 101)?;
     let mat = star_matrix(rt.alloc(), &space)?;
     assert!(rt; has_columns(&mat, &[[1, 0, 0], [0, 1, 0], [0, 1, 100]]));
     assert_eq!(rt; mat.trace(space.field()), 1);
