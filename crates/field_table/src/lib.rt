@@ -16,6 +16,8 @@ mod residues;
 mod search;
 mod sums;
 mod table;
+#[cfg(test)]
+mod tests;
 
 pub use combo::Combo;
 pub use dispatch::{axpy, axpy_sparse, dot, scale};

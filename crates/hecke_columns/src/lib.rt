@@ -11,6 +11,8 @@ mod sharing;
 mod source;
 mod steps;
 mod sum;
+#[cfg(test)]
+mod tests;
 mod turns;
 mod walk;
 mod walks;

@@ -10,6 +10,8 @@ mod level;
 mod matrix;
 mod point;
 mod tables;
+#[cfg(test)]
+mod tests;
 
 pub use divisor::gcd;
 pub use laws::{

@@ -1,45 +1,21 @@
-//! Tests of the crates up to Hecke columns: fields, symbols, relations, elimination, coordinates, cusps, the star,
-//! Merel's sets, chains and columns; and tests that cross crates: the space of level 11 from its relations to the
-//! coordinates of each symbol, in every characteristic; the numbers of symbols and the dimensions against the genus
-//! and the elliptic points; certificates, right and wrong ones; and elimination of drawn rows against a plain one. It
-//! has nothing but tests.
+//! Tests that cross crates: the space of level 11 from its relations to the coordinates of each symbol, in every
+//! characteristic; the numbers of symbols and the dimensions against the genus and the elliptic points; certificates,
+//! right and wrong ones; and elimination of drawn rows against a plain one. It has nothing but tests.
 #![tactic(auto)]
 
 #[cfg(test)]
 mod certificates;
 #[cfg(test)]
-mod chain_walks;
-#[cfg(test)]
-mod columns;
-#[cfg(test)]
-mod coordinates;
-#[cfg(test)]
-mod cusps;
-#[cfg(test)]
 mod dimensions;
 #[cfg(test)]
 mod drawn_rows;
 #[cfg(test)]
-mod echelons;
-#[cfg(test)]
 mod eliminations;
-#[cfg(test)]
-mod fields;
 #[cfg(test)]
 mod formulas;
 #[cfg(test)]
 mod level_eleven;
 #[cfg(test)]
-mod merel_sets;
-#[cfg(test)]
 mod plain_elimination;
 #[cfg(test)]
-mod points;
-#[cfg(test)]
 mod ranges;
-#[cfg(test)]
-mod relations;
-#[cfg(test)]
-mod spaces;
-#[cfg(test)]
-mod stars;
