@@ -16,8 +16,6 @@ mod residues;
 mod search;
 mod sums;
 mod table;
-#[cfg(test)]
-mod tests;
 
 pub use combo::Combo;
 pub use dispatch::{axpy, axpy_sparse, dot, scale};

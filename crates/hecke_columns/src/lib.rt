@@ -11,8 +11,6 @@ mod sharing;
 mod source;
 mod steps;
 mod sum;
-#[cfg(test)]
-mod tests;
 mod turns;
 mod walk;
 mod walks;

@@ -6,8 +6,6 @@ mod chain;
 mod laws;
 mod lists;
 mod step;
-#[cfg(test)]
-mod tests;
 
 pub use chain::Chain;
 pub use laws::{chain_laws, end_laws, lattice_laws, start_laws, step_laws, turn_laws};

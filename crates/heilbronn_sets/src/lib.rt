@@ -5,8 +5,6 @@
 mod laws;
 mod matrix_set;
 mod merel;
-#[cfg(test)]
-mod tests;
 
 pub use laws::{merel_laws, small_sets};
 pub use matrix_set::{MatrixSet, SetFault};

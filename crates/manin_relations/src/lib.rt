@@ -7,8 +7,6 @@ mod combination;
 mod laws;
 mod list;
 mod row;
-#[cfg(test)]
-mod tests;
 
 pub use combination::combination_at;
 pub use laws::{relations_are_congruent_to_zero, relations_have_length_m};

@@ -10,8 +10,6 @@ mod level;
 mod matrix;
 mod point;
 mod tables;
-#[cfg(test)]
-mod tests;
 
 pub use divisor::gcd;
 pub use laws::{

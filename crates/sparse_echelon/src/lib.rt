@@ -12,7 +12,5 @@ mod row_numbers;
 mod selection;
 mod spreading;
 mod stored;
-#[cfg(test)]
-mod tests;
 
 pub use echelon::{Echelon, eliminate};

@@ -1,6 +1,6 @@
 use crate::ranges::are_below;
+use crate::spaces::space_at;
 use field_table::{Combo, Field, OutOfMemory, Residues};
-use p1_normal::Level;
 use quotient_coords::{Certificate, Space};
 use std::alloc::Global;
 use std::test::Fail;
@@ -64,8 +64,7 @@ fn only_the_certificate_passes(
 #[test]
 fn certificates_pass_and_raised_ones_fail(rt: HostRuntime) -> Result<(), Fail> {
     for (n, p) in [(11, 101), (11, 65521), (389, 101), (389, 65521)] {
-        let level = Level::open(rt.alloc(), n)?;
-        let space = Space::open(rt.alloc(), level, Field::open(p)?)?;
+        let space = space_at(rt.alloc(), n, p)?;
         for terms in [
             [(n, 1), (0, 0), (0, 0)],
             [(1, 1), (6, -2), (n, 7)],

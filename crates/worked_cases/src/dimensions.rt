@@ -1,7 +1,5 @@
 use crate::formulas::{dimension, index};
-use field_table::Field;
-use p1_normal::Level;
-use quotient_coords::Space;
+use crate::spaces::space_at;
 use std::alloc::Global;
 use std::test::Fail;
 
@@ -9,7 +7,7 @@ const LEVELS: [u32; 8] = [1, 2, 3, 4, 5, 11, 389, 420];
 
 // The number of symbols and the dimension.
 fn count_and_dimension(alloc: Global, n: u32, p: u32) -> Result<(u32, u64), Fail> {
-    let space = Space::open(alloc, Level::open(alloc, n)?, Field::open(p)?)?;
+    let space = space_at(alloc, n, p)?;
     Ok((space.level().count(), u64::from(space.dim())))
 }
 

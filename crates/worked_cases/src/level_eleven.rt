@@ -1,4 +1,5 @@
 use crate::ranges::are_below;
+use crate::spaces::space_at;
 use field_table::{CHARACTERISTICS, Combo, Field, OutOfMemory};
 use manin_relations::Relations;
 use p1_normal::Level;
@@ -86,8 +87,7 @@ fn has_coordinates(
 #[test]
 fn symbols_have_their_coordinates_in_every_characteristic(rt: HostRuntime) -> Result<(), Fail> {
     for p in CHARACTERISTICS {
-        let level = Level::open(rt.alloc(), 11)?;
-        let space = Space::open(rt.alloc(), level, Field::open(p)?)?;
+        let space = space_at(rt.alloc(), 11, p)?;
         assert!(rt; has_free_symbols(&space), "at {p}");
         for (k, expected) in SYMBOLS {
             assert!(rt;

@@ -1,8 +1,8 @@
-use crate::{star, star_is_linear, star_keeps_congruence, star_matrix, star_matrix_gives_stars};
+use crate::spaces::space_at;
 use dense_mat::Mat;
 use field_table::{Combo, Field, OutOfMemory};
 use p1_normal::Level;
-use quotient_coords::Space;
+use star_map::{star, star_is_linear, star_keeps_congruence, star_matrix, star_matrix_gives_stars};
 use std::alloc::Global;
 use std::test::Fail;
 
@@ -38,8 +38,6 @@ fn has_columns(mat: &Mat, columns: &[[u32; 3]]) -> bool {
 // At level 11 symbol 0 is (0:1), and symbol v + 1 is (1:v).
 #[test]
 fn star_at_11(rt: HostRuntime) -> Result<(), Fail> {
-    star_is_linear();
-    star_keeps_congruence();
     let level = Level::open(rt.alloc(), 11)?;
     let field = Field::open(101)?;
     let terms = [(0, 1), (2, 3), (4, -1), (9, 7)];
@@ -54,12 +52,18 @@ fn star_at_11(rt: HostRuntime) -> Result<(), Fail> {
 // At level 11 modulo 101 star sends 0 0 1 to 0 1 100, and its trace is 1.
 #[test]
 fn star_matrix_at_11(rt: HostRuntime) -> Result<(), Fail> {
-    let field = Field::open(101)?;
-    let space = Space::open(rt.alloc(), Level::open(rt.alloc(), 11)?, field)?;
+    let space = space_at(rt.alloc(), 11, 101)?;
     let mat = star_matrix(rt.alloc(), &space)?;
     assert!(rt; has_columns(&mat, &[[1, 0, 0], [0, 1, 0], [0, 1, 100]]));
     assert_eq!(rt; mat.trace(space.field()), 1);
     Ok(())
+}
+
+// The laws are calls of their own.
+#[test]
+fn laws_of_star(_rt: HostRuntime) {
+    star_is_linear();
+    star_keeps_congruence();
 }
 
 #[test]

@@ -1,4 +1,4 @@
-use crate::{chains, merel_by_chains, next, starts};
+use heilbronn_chains::{chains, merel_by_chains, next, starts};
 use heilbronn_sets::{SetFault, merel_set};
 use p1_normal::Matrix;
 use std::test::Fail;

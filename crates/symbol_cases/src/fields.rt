@@ -1,4 +1,4 @@
-use super::*;
+use field_table::*;
 
 // The workers of a host share these.
 fn is_shared<T: Send + Sync>(_value: &T) {}
@@ -50,15 +50,26 @@ fn combinations_of_terms(rt: HostRuntime) -> Result<(), OutOfMemory> {
     assert!(rt; combo.terms() == [(3, 100)].as_slice());
     let listed = Combo::from_dense(rt.alloc(), &[0, 7, 0, 9])?;
     assert!(rt; listed.into_terms().as_slice() == [(1, 7), (3, 9)].as_slice());
+    Ok(())
+}
+
+// What a list of residues is made from, and gives back.
+#[test]
+fn lists_of_residues(rt: HostRuntime) -> Result<(), OutOfMemory> {
     let mut list = vec![in rt.alloc(); 5, 6]?;
     pushed(&mut list)?;
     let residues = Residues::of(list);
     is_shared(&residues);
     assert!(rt; residues.as_slice() == [5, 6, 1].as_slice());
     assert_eq!(rt; residues.into_vec().len(), 3);
+    Ok(())
+}
+
+// The laws are calls of their own.
+#[test]
+fn laws(_rt: HostRuntime) {
     characteristics_are_primes();
     nonzero_residues_have_inverses();
-    Ok(())
 }
 
 // Places 4 and 2 below 6, in this order.

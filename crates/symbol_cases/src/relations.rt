@@ -1,8 +1,8 @@
-use crate::{
+use field_table::{Combo, Field};
+use manin_relations::{
     Relations, combination_at, relation, relation_at, relations_are_congruent_to_zero,
     relations_have_length_m,
 };
-use field_table::{Combo, Field};
 use p1_normal::Level;
 use std::alloc::Global;
 use std::test::Fail;
@@ -26,11 +26,24 @@ fn relation_and_value(
     }
 }
 
+// The laws are calls of their own.
+#[test]
+fn laws(_rt: HostRuntime) {
+    relations_have_length_m();
+    relations_are_congruent_to_zero();
+}
+
+// Whether the row of a number has these terms.
+fn has_terms(rows: &[Combo], k: usize, terms: &[(u32, u32)]) -> bool {
+    match rows.get(k) {
+        Some(row) => row.terms() == terms,
+        None => false,
+    }
+}
+
 // The relations at level 11: symbol 0 is (0:1), and symbol v + 1 is (1:v).
 #[test]
 fn relations_at_11(rt: HostRuntime) -> Result<(), Fail> {
-    relations_have_length_m();
-    relations_are_congruent_to_zero();
     let level = Level::open(rt.alloc(), 11)?;
     let relations = Relations::build(rt.alloc(), &level, Field::open(101)?)?;
     needs(&relations);
@@ -38,22 +51,16 @@ fn relations_at_11(rt: HostRuntime) -> Result<(), Fail> {
     assert_eq!(rt; rows.len(), 24);
     for (a, b) in [(0, 1), (2, 11), (3, 6), (4, 8), (5, 9), (7, 10)] {
         for k in [a, b] {
-            assert!(rt; k < 12);
-            assert_eq!(rt;
-                rows[k].terms(),
-                [(a as u32, 1), (b as u32, 1)].as_slice(),
+            assert!(rt;
+                has_terms(rows, k, &[(a as u32, 1), (b as u32, 1)]),
                 "at {k}"
             );
         }
     }
     for (a, b, c) in [(0, 1, 11), (2, 6, 10), (3, 5, 8), (4, 7, 9)] {
         for k in [a, b, c] {
-            assert!(rt; k < 12);
-            assert_eq!(rt;
-                rows[12 + k].terms(),
-                [(a as u32, 1), (b as u32, 1), (c as u32, 1)].as_slice(),
-                "at {k}"
-            );
+            let terms = [(a as u32, 1), (b as u32, 1), (c as u32, 1)];
+            assert!(rt; has_terms(rows, 12 + k, &terms), "at {k}");
         }
     }
     Ok(())

@@ -1,4 +1,5 @@
-use crate::{Level, LevelFault, Matrix, NotASymbol, Point, gcd, small_levels};
+use p1_normal::{Level, LevelFault, Matrix, NotASymbol, Point, gcd, small_levels};
+use std::alloc::Global;
 use std::test::Fail;
 
 // What workers share may be sent and shared.
@@ -36,10 +37,22 @@ fn doubled(level: &Level, k: u32) -> Option<u32> {
     }
 }
 
+// The law is a call of its own.
+#[test]
+fn laws(_rt: HostRuntime) {
+    small_levels();
+}
+
+// The level and the number of its symbols.
+fn counted(alloc: Global, n: u32) -> Result<(u32, u32), Fail> {
+    let level = Level::open(alloc, n)?;
+    needs(&level);
+    Ok((level.modulus(), level.count()))
+}
+
 // The levels and the numbers of their symbols by the product formula.
 #[test]
 fn levels(rt: HostRuntime) -> Result<(), Fail> {
-    small_levels();
     for (n, count) in [
         (1, 1),
         (4, 6),
@@ -50,10 +63,13 @@ fn levels(rt: HostRuntime) -> Result<(), Fail> {
         (499, 500),
         (500, 900),
     ] {
-        let level = Level::open(rt.alloc(), n)?;
-        needs(&level);
-        assert_eq!(rt; (level.modulus(), level.count()), (n, count));
+        assert_eq!(rt; counted(rt.alloc(), n)?, (n, count));
     }
+    Ok(())
+}
+
+#[test]
+fn levels_out_of_range(rt: HostRuntime) -> Result<(), Fail> {
     for n in [0, 501] {
         assert_eq!(rt;
             Level::open(rt.alloc(), n).err(),
@@ -78,16 +94,27 @@ fn all_symbols_of_420(rt: HostRuntime) -> Result<(), Fail> {
 }
 
 #[test]
-fn points_and_moves(rt: HostRuntime) -> Result<(), Fail> {
+fn points_of_11(rt: HostRuntime) -> Result<(), Fail> {
     let level = Level::open(rt.alloc(), 11)?;
     for (u, v, p) in [(22, 7, (0, 1)), (3, 1, (1, 4)), (-1, 2, (1, 9))] {
         assert_eq!(rt; level.normal(u, v), Ok(Point { u: p.0, v: p.1 }));
     }
     assert_eq!(rt; level.normal(0, 0), Err(NotASymbol { g: 11 }));
     assert_eq!(rt; level.index(1, 3), Ok(4));
+    Ok(())
+}
+
+#[test]
+fn points_of_4(rt: HostRuntime) -> Result<(), Fail> {
     let four = Level::open(rt.alloc(), 4)?;
     assert_eq!(rt; four.normal(2, 3), Ok(Point { u: 2, v: 1 }));
     assert_eq!(rt; four.normal(2, i64::MIN), Err(NotASymbol { g: 2 }));
+    Ok(())
+}
+
+#[test]
+fn moves_of_11(rt: HostRuntime) -> Result<(), Fail> {
+    let level = Level::open(rt.alloc(), 11)?;
     for (k, image) in [
         (0, (1, 11, 0, 0)),
         (1, (0, 0, 2, 1)),
