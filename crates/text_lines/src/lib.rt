@@ -9,6 +9,6 @@ mod part;
 mod token;
 
 pub use line::{lines_of_ended, next_line, without_return};
-pub use number::{caps_lose_nothing, decimal_of, integer, natural, numerals_read};
+pub use number::{caps_lose_nothing, decimal_of, exact_natural, integer, natural, numerals_read};
 pub use part::{joined_parts, next_part, parts_of_joined};
 pub use token::next_token;

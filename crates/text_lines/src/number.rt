@@ -44,9 +44,10 @@ pub fn integer(token: &[u8], cap: u32) -> Option<i64>
     }
 }
 
-/// The number that digits stand for, below 2 to the 64.
-fn value_of(token: &[u8]) -> Option<u64>
-    ensures { MatchOption result
+/// The number that digits stand for, below 2 to the 64; `None` where the token isn't
+/// one or more digits, or they stand for more. Leading zeros are read.
+pub fn exact_natural(token: &[u8]) -> Option<u64>
+    ensures number { MatchOption result
         ((is_natural token.now ≡ false) ⊎ (2 ^ 64 ≤ natural_of token.now))
         (λ n. (is_natural token.now ≡ true) × (n ≡ natural_of token.now)) }
 {
@@ -72,7 +73,7 @@ pub fn decimal_of(token: &[u8]) -> Option<u64>
     ensures number { MatchOption result ((n : ℕ) → n < 2 ^ 64 → token.now ≡ decimal n → ⊥)
         (λ n. token.now ≡ decimal n) }
 {
-    let value = value_of(token)?;
+    let value = exact_natural(token)?;
     let mut buffer = Buffer::new();
     if buffer.format(value).as_bytes() == token {
         Some(value)

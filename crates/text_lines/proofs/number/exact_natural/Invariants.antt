@@ -1,7 +1,7 @@
 use Rattle.std.proofs.Common.{◌≡◌, ◌≤◌, ◌^◌, min, drop}
 use Rattle.std.specs.List.{list_all}
 use Rattle.text_lines.specs.Numbers.{is_digit, value_after}
-use Rattle.text_lines.proofs.number.value_of.Given as goal
+use Rattle.text_lines.proofs.number.exact_natural.Given as goal
 
 abbrev pub invariant-loop-b : goal.invariant-loop-b
 invariant-loop-b l = record {

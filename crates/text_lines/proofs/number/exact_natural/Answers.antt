@@ -1,7 +1,7 @@
 use Rattle.std.proofs.Common.{◌≡◌, ◌+◌, ◌-◌, ◌*◌, ◌^◌, min, true, get_or, sym, ◌∙◌, arith}
 use Rattle.text_lines.specs.Numbers.{is_digit}
 use Rattle.text_lines.proofs.NumberLemmas.{digits-next, value_after-next}
-use Rattle.text_lines.proofs.number.value_of.Goals as goal
+use Rattle.text_lines.proofs.number.exact_natural.Goals as goal
 
 pub loop-b-preserved : goal.loop-b-preserved
 loop-b-preserved c =
