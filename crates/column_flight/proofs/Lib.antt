@@ -4,4 +4,3 @@ pub mod FlightSteps
 pub mod FlightLaws
 pub mod TurnEvents
 pub mod OwnEvents
-pub mod Coprime

@@ -1,7 +1,7 @@
 -- Two points have one key exactly where one is the other times a power of U.
 use Rattle.std.proofs.Common.{◌≡◌, ◌+◌, ◌*◌, ◌/◌, ◌%◌, ◌<◌, ◌↔◌, ℕ, zero, suc, refl, sym, ◌∙◌, ap, subst, arith}
 use Rattle.std.specs.Int.{◌∣◌}
-use Rattle.std.proofs.Math.Nat.{dvd_refl, dvd_trans, dvd_antisymm, dvd-mod_iff, dvd-mul_left_of_dvd, dvd-mul_right, pos_of_dvd_of_pos, mul-div_cancel', mod-mod_of_dvd, mod-lt, zero-mod, mul-lt-mul_of_pos_left, add-mod-mod, add-mul-mod_self_left, div-add-mod, eq_of_mul-eq-mul_left, eq-one_of_dvd-one}
+use Rattle.std.proofs.Math.Nat.{dvd_refl, dvd_trans, dvd_antisymm, dvd-mul_right, pos_of_dvd_of_pos, mul-div_cancel', mod-mod_of_dvd, mod-lt, zero-mod, mul-lt-mul_of_pos_left, add-mod-mod, add-mul-mod_self_left, div-add-mod, eq_of_mul-eq-mul_left, eq-one_of_dvd-one}
 use Rattle.std.proofs.lemmas.Nat.Gcd.{dvd_of_mod-eq-zero, mod-eq-zero_of_dvd}
 use Rattle.std.proofs.lemmas.Nat.{mul-mod_first, mul-mod_second, mod-mul-add}
 use Rattle.p1_normal.specs.declared.point.Point.{Point}

@@ -1,5 +1,5 @@
 -- Tables of the numbers of symbols in a list, and the columns that they find.
-use Rattle.std.proofs.Common.{◌≡◌, ◌≢◌, ◌<◌, ◌+◌, ◌++◌, ◌||◌, ℕ, Bool, true, false, List, [], ◌∷◌, All, Option, None, Some, IsSome, length, map, take, set, get_or, replicate, nat_eq, refl, sym, ◌∙◌, ap, subst, arith, rules}
+use Rattle.std.proofs.Common.{◌≡◌, ◌<◌, ◌+◌, ◌||◌, ℕ, Bool, true, false, List, [], ◌∷◌, All, Option, None, Some, IsSome, length, map, take, set, get_or, replicate, nat_eq, refl, sym, ◌∙◌, ap, subst, arith, rules}
 use Rattle.std.specs.Set.{is_member}
 use Rattle.std.proofs.lemmas.Bool.{eqb-true, eqb-false}
 use Rattle.std.proofs.lemmas.Grind.{get_or-set_at}

@@ -1,30 +1,27 @@
 -- Lists of steps, and the matrices after them.
-use Rattle.std.proofs.Common.{◌≡◌, ◌+◌, ◌*◌, ◌-◌, ◌%◌, ◌<◌, ◌≤◌, ℕ, zero, suc, List, [], ◌∷◌, ◌++◌, length, get_or, set, take, All, refl, sym, ◌∙◌, ap, subst, arith}
-use Rattle.std.specs.Prelude.{pos, map, unsigned_abs, ◌<ℤ◌, ◌≤ℤ◌, ◌+ℤ◌, ◌*ℤ◌}
+use Rattle.std.proofs.Common.{◌≡◌, ◌+◌, ◌*◌, ◌<◌, ◌≤◌, ℕ, zero, suc, List, [], ◌∷◌, ◌++◌, length, get_or, All, refl, sym, ◌∙◌, ap, subst, arith}
+use Rattle.std.specs.Prelude.{pos, unsigned_abs, ◌<ℤ◌, ◌≤ℤ◌, ◌+ℤ◌, ◌*ℤ◌}
 use Rattle.std.specs.List.{flat_map}
 use Rattle.std.specs.List.Sorted.{IsPermutation}
 use Rattle.std.proofs.lemmas.Int.{ints}
-use Rattle.std.proofs.lemmas.List.{append-nil, append_assoc, take_more}
-use Rattle.std.proofs.lemmas.List.Elements.{All-nil, All-cons, All-head, All-tail, All-push}
+use Rattle.std.proofs.lemmas.List.{append-nil, append_assoc}
+use Rattle.std.proofs.lemmas.List.Elements.{All-nil, All-head, All-tail, All-push}
 use Rattle.std.proofs.lemmas.Grind.{flat_map-append}
 use Rattle.p1_normal.specs.declared.matrix.Matrix.{Matrix}
 use Rattle.p1_normal.specs.declared.matrix.TheConstants.{MAX_DET}
-use Rattle.p1_normal.specs.Actions.{IsInvertible, image_number, product}
-use Rattle.p1_normal.specs.Points.{symbols}
-use Rattle.p1_normal.specs.Units.{gcd}
+use Rattle.p1_normal.specs.Actions.{product}
 use Rattle.heilbronn_sets.specs.Merel.{IsMerel, merel_matrices, starts}
 use Rattle.heilbronn_sets.proofs.Faults.{zero_matrix}
 use Rattle.heilbronn_sets.proofs.Entries.{entries_sum}
-use Rattle.heilbronn_sets.proofs.Members.{IsSmall-member, member_entries}
-use Rattle.heilbronn_chains.specs.Chains.{Follows, IsChain, member}
-use Rattle.heilbronn_chains.specs.Turns.{StepsOn, turn}
+use Rattle.heilbronn_sets.proofs.Members.{member_entries}
+use Rattle.heilbronn_chains.specs.Chains.{Follows}
+use Rattle.heilbronn_chains.specs.Turns.{turn}
 use Rattle.heilbronn_chains.proofs.ChainLists.{chains_permutation}
 use Rattle.heilbronn_chains.proofs.Turns.{steps_on, quotient_unique}
 use Rattle.heilbronn_chains.proofs.Walks.{IsPart, Walked, walk_begins, walk_goes_on, walk_ends, part_none, part_more, part_all}
 use Rattle.hecke_columns.specs.declared.steps.Step.{Step}
 use Rattle.hecke_columns.specs.declared.steps.Step.TheVariants as steps
-use Rattle.hecke_columns.specs.Steps.{AddsSteps, AreSteps, IsActing, IsTurnWithin, after, identity, last_of, matrices_from, matrices_of}
-use Rattle.hecke_columns.proofs.Coprime.{IsInvertible-from_determinant}
+use Rattle.hecke_columns.specs.Steps.{AddsSteps, AreSteps, IsTurnWithin, after, identity, last_of, matrices_from, matrices_of}
 
 -- one step more
 pub matrices-push : (m : Matrix) (ss : List Step) (s : Step) → matrices_from m (ss ++ s ∷ []) ≡ matrices_from m ss ++ after (last_of m ss) s ∷ []

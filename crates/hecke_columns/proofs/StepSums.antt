@@ -1,8 +1,7 @@
 -- Hecke sums along steps, as the code takes them.
-use Rattle.std.proofs.Common.{◌≡◌, ◌+◌, ◌%◌, ◌<◌, ◌≤◌, ℕ, zero, suc, List, [], ◌∷◌, ◌++◌, length, get_or, replicate, set, take, All, refl, sym, ◌∙◌, ap, subst, arith}
+use Rattle.std.proofs.Common.{◌≡◌, ◌+◌, ◌%◌, ◌<◌, ℕ, zero, suc, List, [], ◌∷◌, ◌++◌, length, get_or, replicate, set, take, All, refl, sym, ◌∙◌, ap, subst, arith}
 use Rattle.std.specs.Prelude.{pos}
-use Rattle.std.specs.List.Sorted.{IsPermutation}
-use Rattle.std.proofs.lemmas.List.{get_or_default, take_more}
+use Rattle.std.proofs.lemmas.List.{take_more}
 use Rattle.std.proofs.lemmas.List.Elements.{All-nil, All-cons, All-head, All-push, All-set, All-tail}
 use Rattle.std.proofs.lemmas.List.Sorted.{All-permutation, IsPermutation-sym}
 use Rattle.linear_algebra.specs.Vector.{◌⊞◌}
@@ -11,8 +10,7 @@ use Rattle.linear_algebra.specs.Sparse.{sparse}
 use Rattle.field_table.specs.Residues.{AreResidues}
 use Rattle.field_table.specs.Terms.{HasPlacesBelow}
 use Rattle.p1_normal.specs.declared.matrix.Matrix.{Matrix}
-use Rattle.p1_normal.specs.declared.matrix.TheConstants.{MAX_DET}
-use Rattle.p1_normal.specs.Actions.{IsInvertible, image_number, product}
+use Rattle.p1_normal.specs.Actions.{IsInvertible, image_number}
 use Rattle.p1_normal.specs.Points.{symbols}
 use Rattle.p1_normal.specs.Units.{gcd}
 use Rattle.p1_normal.proofs.Moves.{image_number-image_number}

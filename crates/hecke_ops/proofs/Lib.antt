@@ -6,4 +6,3 @@ pub mod AllColumns
 pub mod Testing
 pub mod Vetted
 pub mod OneMatrix
-pub mod Coprime

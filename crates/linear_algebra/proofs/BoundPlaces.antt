@@ -1,5 +1,5 @@
 -- The test over all coefficients finds the bound places, and the free places are the others.
-use Rattle.std.proofs.Common.{◌≡◌, ◌⊎◌, ◌+◌, ◌-◌, ◌<◌, ◌≤◌, ℕ, zero, suc, List, [], ◌∷◌, length, get_or, map, Bool, true, false, not, ◌||◌, nat_eq, cond, refl, sym, ◌∙◌, ap, subst, inl, inr, arith, eq-eqb, eqb-true}
+use Rattle.std.proofs.Common.{◌≡◌, ◌⊎◌, ◌+◌, ◌-◌, ◌<◌, ◌≤◌, ℕ, zero, suc, List, [], ◌∷◌, length, get_or, map, Bool, true, false, not, nat_eq, cond, refl, sym, ◌∙◌, ap, subst, inl, inr, arith, eq-eqb, eqb-true}
 use Rattle.std.proofs.Math.Nat.{zero-mod}
 use Rattle.std.proofs.Math.Decide.{ℕ_discrete}
 use Rattle.std.proofs.lemmas.Bool.{cases_lt, and_parts, or_cases, or_left, or_right}

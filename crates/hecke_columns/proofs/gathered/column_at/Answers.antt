@@ -1,7 +1,6 @@
-use Rattle.std.proofs.Common.{◌≡◌, ◌<◌, ℕ, length, map, get_or, sym, ◌∙◌, ap, subst, rules}
+use Rattle.std.proofs.Common.{◌<◌, length, sym, ◌∙◌, ap, subst, rules}
 use Rattle.std.specs.Arc.{arc_value}
 use Rattle.std.proofs.lemmas.List.{length-map}
-use Rattle.quotient_coords.specs.Quotient.{Ground}
 use Rattle.hecke_columns.specs.Gathering.{IsGathered, symbol_of}
 use Rattle.hecke_columns.proofs.GatheringLemmas.{All-at, number_is}
 use Rattle.hecke_columns.proofs.gathered.column_at.Goals as goal

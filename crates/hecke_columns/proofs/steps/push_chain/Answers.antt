@@ -1,6 +1,5 @@
-use Rattle.std.proofs.Common.{◌<◌, ◌≤◌, refl, arith, subst}
+use Rattle.std.proofs.Common.{◌<◌, refl, arith, subst}
 use Rattle.std.specs.Prelude.{unsigned_abs}
-use Rattle.p1_normal.specs.declared.matrix.TheConstants.{MAX_DET}
 use Rattle.heilbronn_chains.specs.Chains.{Follows, degree}
 use Rattle.heilbronn_chains.proofs.Walks.{degree_is, walk_smaller}
 use Rattle.hecke_columns.proofs.StepLists.{lower_row, stepping_begins, stepping_goes_on, stepping_ends}

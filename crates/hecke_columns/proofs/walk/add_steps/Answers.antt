@@ -1,6 +1,4 @@
-use Rattle.std.proofs.Common.{length, arith, refl}
-use Rattle.std.proofs.lemmas.List.Elements.{All-get_or}
-use Rattle.hecke_columns.specs.Steps.{IsActing}
+use Rattle.std.proofs.Common.{arith, refl}
 use Rattle.hecke_columns.proofs.StepSums.{counted_none_stepped, counted_more_stepped, counted_all_stepped}
 use Rattle.hecke_columns.proofs.walk.add_steps.Goals as goal
 

@@ -1,4 +1,4 @@
-use Rattle.std.proofs.Common.{arith, refl}
+use Rattle.std.proofs.Common.{arith}
 use Rattle.quotient_coords.proofs.RowSums.{counted_none, counted_zero, counted_some, counted_all}
 use Rattle.quotient_coords.proofs.row_sums.add_counted_rows.Goals as goal
 use Rattle.quotient_coords.proofs.row_sums.add_counted_rows.Goals.{then-counts-k-ne0, else-counts-k-ne0}

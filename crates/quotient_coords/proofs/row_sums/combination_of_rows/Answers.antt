@@ -1,9 +1,8 @@
 use Rattle.std.proofs.Common.{◌≡◌, All, ◌<◌, ◌^◌, length, replicate, sym, ◌∙◌, ap, subst, arith, rules}
-use Rattle.std.proofs.lemmas.List.{with_items_is, length-replicate}
+use Rattle.std.proofs.lemmas.List.{with_items_is}
 use Rattle.std.proofs.lemmas.List.Elements.{All-replicate}
 use Rattle.std.proofs.lemmas.Result.{IfOk-weaker}
 use Rattle.std.specs.Prelude.{map, ◌%◌}
-use Rattle.field_table.specs.Terms.{HasPlacesBelow}
 use Rattle.linear_algebra.specs.Dense.{dense}
 use Rattle.linear_algebra.specs.Sparse.{sparse, sparse_rows}
 use Rattle.linear_algebra.specs.Vector.{combination}

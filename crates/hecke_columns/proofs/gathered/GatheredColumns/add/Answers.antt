@@ -1,4 +1,4 @@
-use Rattle.std.proofs.Common.{◌≡◌, sym, ◌∙◌, ap, length}
+use Rattle.std.proofs.Common.{sym, ◌∙◌, ap, length}
 use Rattle.hecke_columns.proofs.Columns.{AddsColumn-from_sum}
 use Rattle.hecke_columns.proofs.GatheringLemmas.{IsColumn-gathered}
 use Rattle.hecke_columns.proofs.gathered.GatheredColumns.add.Goals as goal

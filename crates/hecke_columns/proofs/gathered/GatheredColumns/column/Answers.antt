@@ -1,4 +1,4 @@
-use Rattle.std.proofs.Common.{◌≡◌, sym, subst}
+use Rattle.std.proofs.Common.{subst}
 use Rattle.quotient_coords.specs.Quotient.{ground_of}
 use Rattle.hecke_columns.specs.Gathering.{Gathering, IsGathered}
 use Rattle.hecke_columns.proofs.gathered.GatheredColumns.column.Goals as goal

@@ -1,4 +1,3 @@
-use Rattle.std.proofs.Common.{◌≡◌, sym, subst}
 use Rattle.hecke_columns.proofs.gathered.GatheredColumns.of.Goals as goal
 
 pub invariant_of-result : goal.invariant_of-result
