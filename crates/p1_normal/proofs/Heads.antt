@@ -1,13 +1,10 @@
 -- The first part of a symbol is the least of its multiples by units.
 use Rattle.std.proofs.Common.{◌≡◌, ◌+◌, ◌*◌, ◌%◌, ◌<◌, ◌≤◌, ℕ, ◌∙◌, ap, inl, inr, arith}
 use Rattle.std.proofs.Math.Nat.{mul-le-mul_right, mod-eq_of_lt}
-use Rattle.std.proofs.lemmas.Nat.{mul-mod_second}
 use Rattle.std.proofs.lemmas.Bool.{cases_lt}
 use Rattle.p1_normal.specs.declared.point.Point.{Point}
-use Rattle.p1_normal.specs.Units.{IsUnit}
 use Rattle.p1_normal.specs.Points.{pair_multiple, SamePoint, normal_form, IsBelow}
 use Rattle.p1_normal.specs.Tables.{place, IsHead}
-use Rattle.p1_normal.proofs.Units.{IsUnit-mul}
 use Rattle.p1_normal.proofs.SamePoints.{SamePoint_sym, SamePoint-pair_multiple}
 use Rattle.p1_normal.proofs.NormalForms.{normal_form-le, IsBelow-pair_multiple}
 
@@ -38,13 +35,4 @@ head_of_form N p some below own = record {
       let le : place N (normal_form N p) ≤ place N (pair_multiple N s p) =
       normal_form-le N p (pair_multiple N s p) some (SamePoint-pair_multiple N s p h) (IsBelow-pair_multiple N s p some) in
       row-le N p (pair_multiple N s p) below.second (IsBelow-pair_multiple N s p some).second (omega (arith, le, ap (place N) own));
-}
-
--- the least multiple by units is a head
-pub head_of_least : (N u t : ℕ) → IsUnit N t → ((s : ℕ) → IsUnit N s → (t * u) % N ≤ (s * u) % N) → IsHead N ((t * u) % N)
-head_of_least N u t h least = record {
-  least = λ s g.
-      let turned : s * (t * u) ≡ s * t * u = omega arith in
-      let e : (s * ((t * u) % N)) % N ≡ (s * t * u) % N = mul-mod_second s (t * u) N ∙ ap (λ n. n % N) turned in
-      omega (arith, least (s * t) (IsUnit-mul N s t g h));
 }

@@ -8,6 +8,7 @@ pub mod Lists
 pub mod Sieve
 pub mod UnitLists
 pub mod Marking
+pub mod Factors
 pub mod Turns
 pub mod Residues
 pub mod Actions

@@ -14,8 +14,8 @@ use Rattle.p1_normal.specs.Sieving.{at}
 use Rattle.p1_normal.proofs.SamePoints.{SamePoint-pair_multiple}
 use Rattle.p1_normal.proofs.NormalForms.{IsBelow-pair_multiple, scaled_is}
 use Rattle.p1_normal.proofs.Heads.{head_same}
-use Rattle.p1_normal.proofs.Places.{place-lt, place_inj, pairs_are}
-use Rattle.p1_normal.proofs.UnitLists.{fixing_at, fixing_found}
+use Rattle.p1_normal.proofs.Places.{place_inj, pairs_are}
+use Rattle.p1_normal.proofs.UnitLists.{fixing_at, fixing_found, fixing_keeps}
 
 -- the number is written at the first k multiples of p by units that keep its first part, and elsewhere at names of p alone
 pub record Marked (N : ℕ) (p : Point) (number k : ℕ) (old new : List ℕ) : Type 0 where
@@ -27,13 +27,14 @@ pub record Marked (N : ℕ) (p : Point) (number k : ℕ) (old new : List ℕ) : 
 pub marked_none : (N : ℕ) (p : Point) (number : ℕ) (old : List ℕ) → Marked N p number 0 old old
 marked_none N p number old = record { size = refl; done = λ j l. absurd (omega arith); others = λ q below. inl refl }
 
-pub marked_more : (N : ℕ) (p : Point) (number k : ℕ) (old new : List ℕ) → 0 < N → length old ≡ N * N → k < length (fixing N p.u)
+pub marked_more : (N : ℕ) (p : Point) (number k : ℕ) (old new : List ℕ) → 0 < N → p.u * N + N ≤ length old → k < length (fixing N p.u)
     → Marked N p number k old new →
     Marked N p number (k + 1) old (set new (place N (pair_multiple N (get_or (fixing N p.u) k 0) p)) number)
-marked_more N p number k old new some size within h =
+marked_more N p number k old new some room within h =
     let r : Point = pair_multiple N (get_or (fixing N p.u) k 0) p in
     let r_below : IsBelow N r = IsBelow-pair_multiple N (get_or (fixing N p.u) k 0) p some in
-    let inside : place N r < length new = omega (arith, place-lt N r r_below, h.size) in
+    let row : r.u * N ≡ p.u * N = ap (λ u. u * N) (fixing_keeps N p.u k within) in
+    let inside : place N r < length new = omega (arith, row, r_below.second, h.size) in
     record {
       size = length-set new (place N r) number ∙ h.size;
       done = λ j l. elim (cases_eq (place N (pair_multiple N (get_or (fixing N p.u) j 0) p)) (place N r)) [

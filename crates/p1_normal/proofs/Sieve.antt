@@ -9,7 +9,7 @@ use Rattle.std.proofs.lemmas.List.FromFn.{filter_of_map_range_with_len_more}
 use Rattle.std.proofs.lemmas.List.{length-append}
 use Rattle.p1_normal.specs.declared.point.Point.{Point}
 use Rattle.p1_normal.specs.Points.{point, SamePoint, common_divisor, normal_form, is_same, is_symbol, symbols, IsBelow}
-use Rattle.p1_normal.specs.Tables.{place, IsHead, IsNumbering, Marks}
+use Rattle.p1_normal.specs.Tables.{place, IsHead, HasRows, IsNumbering, Marks}
 use Rattle.p1_normal.specs.Sieving.{at, ListedAt, IsListed, Sieved}
 use Rattle.p1_normal.proofs.SamePoints.{SamePoint_refl, SamePoint_sym, SamePoint_trans, common_divisor-same}
 use Rattle.p1_normal.proofs.Places.{place-at, at-place, IsBelow-at, place-lt, same_point, pairs_are}
@@ -41,11 +41,11 @@ symbol_from N p one same = and_from (nat_eq (common_divisor N p) 1) (is_same (no
     (and_from (nat_eq (normal_form N p).u p.u) (nat_eq (normal_form N p).v p.v) (eq-eqb (normal_form N p).u p.u (ap (λ q. q.u) same))
     (eq-eqb (normal_form N p).v p.v (ap (λ q. q.v) same)))
 
-pub sieve_start : (N : ℕ) (numbers : List ℕ) → length numbers ≡ N * N → ((i : ℕ) → slice_index numbers i ≡ 0) → Sieved N 0 [] numbers
-sieve_start N numbers e zeros = record {
+pub sieve_start : (N : ℕ) (numbers : List ℕ) → HasRows N numbers → ((i : ℕ) → slice_index numbers i ≡ 0) → Sieved N 0 [] numbers
+sieve_start N numbers rows zeros = record {
   listed = refl;
   few = omega arith;
-  size = e;
+  rows = rows;
   members = λ k q h. absurd (none-some q h);
   entries = λ p k below h. absurd (omega (arith, h, zeros (place N p)));
   closed = λ p k below head h. absurd (none-some h.symbol h.stands);
@@ -83,7 +83,7 @@ skipped : {N c : ℕ} {points : List Point} {numbers : List ℕ} → 0 < N → c
 skipped {N} {c} {points} {numbers} some within s no_symbol marked = record {
   listed = sym (append-nil points) ∙ listed_more N c points false s.listed no_symbol;
   few = omega (arith, s.few);
-  size = s.size;
+  rows = s.rows;
   members = λ k q h. IsListed-more (s.members k q h);
   entries = s.entries;
   closed = s.closed;
@@ -142,7 +142,7 @@ sieve_push {N} {c} {points} {numbers} {new} some within s head unmarked one mark
     record {
       listed = listed_more N c points true s.listed symbol;
       few = omega (arith, s.few, length-append points (at N c ∷ []));
-      size = marks.size ∙ s.size;
+      rows = λ u l h. omega (arith, marks.size, s.rows u l h);
       members = λ k q h. elim (get-push_cases points (at N c) q k h) [
         | inl old ↦ IsListed-more (s.members k q old)
         | inr here ↦ subst (IsListed N (c + 1)) here.1 (record {
@@ -192,7 +192,7 @@ sieve_end {N} {points} {numbers} some s =
     let all : points ≡ symbols N = s.listed ∙ ap (filter (is_symbol N)) (sym (pairs_are N)) in (
       all,
       record {
-        size = s.size;
+        rows = s.rows;
         none = λ p below head z one. s.covered p below head (place-lt N p below) one z;
         some = λ p k below head h.
             let at_k = s.entries p k below h in

@@ -1,69 +1,18 @@
 -- The unit that turns a number into the head of its multiples.
-use Rattle.std.proofs.Common.{◌≡◌, ◌≢◌, ◌+◌, ◌*◌, ◌%◌, ◌<◌, ◌≤◌, ◌++◌, ℕ, suc, List, [], ◌∷◌, Some, length, get_or, refl, sym, ◌∙◌, ap, subst, inl, inr, arith}
+use Rattle.std.proofs.Common.{◌≡◌, ◌≢◌, ◌+◌, ◌*◌, ◌%◌, ◌<◌, ◌++◌, ℕ, suc, List, [], ◌∷◌, Some, length, get_or, refl, sym, ◌∙◌, ap, subst, inl, inr, arith}
 use Rattle.std.specs.Prelude.{slice_get, slice_index}
 use Rattle.std.proofs.Math.Nat.{mod-lt, mod-mod, mod-eq_of_lt}
-use Rattle.std.proofs.lemmas.Nat.{mul-mod_first, mul-add-lt}
-use Rattle.std.proofs.lemmas.Bool.{cases_eq}
+use Rattle.std.proofs.lemmas.Nat.{mul-add-lt}
 use Rattle.std.proofs.lemmas.List.{length-append}
 use Rattle.std.proofs.lemmas.Option.{none-some, slice_get-get_or}
 use Rattle.p1_normal.specs.declared.point.Point.{Point}
 use Rattle.p1_normal.specs.declared.tables.Turn.{Turn}
-use Rattle.p1_normal.specs.Units.{IsUnit, units}
 use Rattle.p1_normal.specs.Points.{pair_multiple, SamePoint, common_divisor, normal_form, IsBelow, IsNumber}
 use Rattle.p1_normal.specs.Tables.{IsHead, IsTurn, AreTurns, IsNumbering}
-use Rattle.p1_normal.proofs.Units.{IsUnit-one, IsUnit-mod, IsUnit-inverse}
-use Rattle.p1_normal.proofs.UnitLists.{unit_at, unit_below, unit_found}
+use Rattle.p1_normal.proofs.Units.{IsUnit-inverse}
 use Rattle.p1_normal.proofs.SamePoints.{undone, SamePoint-pair_multiple, common_divisor-same}
 use Rattle.p1_normal.proofs.NormalForms.{IsBelow-pair_multiple, normal_form-same}
-use Rattle.p1_normal.proofs.Heads.{head_of_least}
 use Rattle.p1_normal.proofs.Lists.{get-push_cases}
-
--- the least among the first k units
-pub record TurnSoFar (N u k : ℕ) (turn : Turn) : Type 0 where
-  pub unit : IsUnit N turn.factor
-  pub small : turn.factor < N
-  pub turned : (turn.factor * u) % N ≡ turn.head
-  pub least : (j : ℕ) → j < k → turn.head ≤ (get_or (units N) j 0 * u) % N
-
-pub turn_none : (N u : ℕ) (turn : Turn) → 0 < N → u < N → turn.factor ≡ 1 % N → turn.head ≡ u → TurnSoFar N u 0 turn
-turn_none N u turn some within e f = record {
-  unit = subst (IsUnit N) (sym e) (IsUnit-mod N 1 (IsUnit-one N));
-  small = let l : 1 % N < N = mod-lt 1 some in omega arith;
-  turned = ap (λ t. (t * u) % N) e ∙ mul-mod_first 1 u N ∙ ap (λ n. n % N) (omega arith) ∙ mod-eq_of_lt within ∙ sym f;
-  least = λ j l. absurd (omega arith);
-}
-
-least_more : (N u k head : ℕ) → ((j : ℕ) → j < k → head ≤ (get_or (units N) j 0 * u) % N) → head ≤ (get_or (units N) k 0 * u) % N → (j : ℕ)
-    → j < k + 1 → head ≤ (get_or (units N) j 0 * u) % N
-least_more N u k head before here j l = elim (cases_eq j k) [
-  | inl same ↦ subst (λ i. head ≤ (get_or (units N) i 0 * u) % N) (sym same) here
-  | inr other ↦ before j (omega arith)
-]
-
-pub turn_kept : (N u k : ℕ) (turn : Turn) → turn.head ≤ (get_or (units N) k 0 * u) % N → TurnSoFar N u k turn → TurnSoFar N u (k + 1) turn
-turn_kept N u k turn le h = record { unit = h.unit; small = h.small; turned = h.turned; least = least_more N u k turn.head h.least le }
-
-pub turn_changed : (N u k : ℕ) (turn new : Turn) → k < length (units N) → new.factor ≡ get_or (units N) k 0
-    → new.head ≡ (get_or (units N) k 0 * u) % N → new.head ≤ turn.head → TurnSoFar N u k turn → TurnSoFar N u (k + 1) new
-turn_changed N u k turn new within e f le h = record {
-  unit = subst (IsUnit N) (sym e) (unit_at N k within);
-  small = let l = unit_below N k within in omega arith;
-  turned = ap (λ t. (t * u) % N) e ∙ sym f;
-  least = least_more N u k new.head (λ j l. let m = h.least j l in omega arith) (omega arith);
-}
-
-pub turn_all : (N u : ℕ) (turn : Turn) → 0 < N → TurnSoFar N u (length (units N)) turn → IsTurn N u turn
-turn_all N u turn some h = record {
-  unit = h.unit;
-  small = h.small;
-  turned = h.turned;
-  head = subst (IsHead N) h.turned (head_of_least N u turn.factor h.unit (λ s g.
-      let (j, l, e) = unit_found N s some g in
-      let le = h.least j l in
-      let is : (get_or (units N) j 0 * u) % N ≡ (s * u) % N = ap (λ t. (t * u) % N) e ∙ mul-mod_first s u N in
-      let own = h.turned in
-      omega arith));
-}
 
 -- a head is turned into itself
 pub turn_own : (N u : ℕ) (turn : Turn) → u < N → IsTurn N u turn → IsHead N u → turn.head ≡ u

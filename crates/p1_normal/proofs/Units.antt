@@ -1,7 +1,7 @@
 -- The greatest common divisor, inverses and units modulo N.
 use Rattle.std.proofs.Common.{◌≡◌, ◌+◌, ◌*◌, ◌%◌, ◌/◌, ◌<◌, ℕ, zero, suc, refl, sym, ◌∙◌, ap, subst, inl, inr, arith, Bool, true, max, eq-eqb, eqb-true, ◌&&◌, ◌≤◌}
 use Rattle.std.specs.Int.{IsGcd, ◌∣◌}
-use Rattle.std.proofs.lemmas.Nat.Gcd.{IsGcd-from_zero, IsGcd-from_mod, same_from_IsGcd, dvd_of_mod-eq-zero, mod-eq-zero_of_dvd, le_of_dvd, dvd_antisymm, dvd-zero}
+use Rattle.std.proofs.lemmas.Nat.Gcd.{IsGcd-from_zero, IsGcd-from_mod, same_from_IsGcd, dvd_of_mod-eq-zero, mod-eq-zero_of_dvd, le_of_dvd, dvd_antisymm, dvd_trans, dvd-zero}
 use Rattle.std.proofs.lemmas.Bool.{and_from, and_parts, cond_both, cases_eq, false≢true}
 use Rattle.std.proofs.Math.Nat.{mod-lt, mod-mod, mul-mod_left, mod_self, mod-add-mod, add-mod-mod, add-mul-mod_self_left, div-add-mod, dvd-mod_iff, dvd-mul_right_of_dvd, eq-one_of_dvd-one, eq-zero_of_zero-dvd}
 use Rattle.std.proofs.lemmas.Nat.{mul-mod_first, mul-mod_second}
@@ -70,6 +70,16 @@ IsGcd-gcd a b = subst (IsGcd a b) (sym (gcd-gcd_within a b)) (IsGcd-gcd_within (
 
 pub gcd_from_IsGcd : (a b g : ℕ) → IsGcd a b g → g ≡ gcd a b
 gcd_from_IsGcd a b g is = same_from_IsGcd a b g (gcd a b) is (IsGcd-gcd a b)
+
+-- the common divisor of u and N may be taken before v
+pub gcd-turned : (u v N : ℕ) → gcd v (gcd u N) ≡ gcd (gcd u v) N
+gcd-turned u v N =
+    let pair = IsGcd-gcd u v in
+    let row = IsGcd-gcd u N in
+    let all = IsGcd-gcd v (gcd u N) in
+    let d : ℕ = gcd v (gcd u N) in
+    gcd_from_IsGcd (gcd u v) N d
+    (pair.2 d (dvd_trans d all.1 row.0) all.0, dvd_trans d all.1 row.1, λ e x y. all.2 e (dvd_trans e x pair.1) (row.2 e (dvd_trans e x pair.0) y))
 
 -- d is a multiple of s modulo N
 pub record IsMultiple (N s d : ℕ) : Type 0 where

@@ -3,12 +3,12 @@
 --   ListedAt N points k p       the pair listed at k names the point p
 --   IsListed N c q              q is a symbol at a place below c
 --   Sieved N c points numbers   the pairs at places below c are done
-use Rattle.std.specs.Prelude.{◌≡◌, ◌≢◌, ◌<◌, ◌≤◌, ℕ, ◌*◌, ◌/◌, ◌%◌, true, List, length, map, filter, slice_index, slice_get, Some}
+use Rattle.std.specs.Prelude.{◌≡◌, ◌≢◌, ◌<◌, ◌≤◌, ℕ, ◌/◌, ◌%◌, true, List, length, map, filter, slice_index, slice_get, Some}
 use Rattle.std.specs.List.{range_with_len}
 use Rattle.std.proofs.Common.{suc}
 use Rattle.p1_normal.specs.declared.point.Point.{Point}
 use Rattle.p1_normal.specs.Points.{point, SamePoint, common_divisor, is_symbol, IsBelow}
-use Rattle.p1_normal.specs.Tables.{IsHead, place}
+use Rattle.p1_normal.specs.Tables.{IsHead, HasRows, place}
 
 -- the pair at a place
 abbrev pub at : ℕ → ℕ → Point
@@ -30,7 +30,7 @@ pub record IsListed (N c : ℕ) (q : Point) : Type 0 where
 pub record Sieved (N c : ℕ) (points : List Point) (numbers : List ℕ) : Type 0 where
   pub listed : points ≡ filter (is_symbol N) (map (at N) (range_with_len 0 c))
   pub few : length points ≤ c
-  pub size : length numbers ≡ N * N
+  pub rows : HasRows N numbers
   pub members : (k : ℕ) (q : Point) → slice_get points k ≡ Some q → IsListed N c q
   pub entries : (p : Point) (k : ℕ) → IsBelow N p → slice_index numbers (place N p) ≡ suc k → ListedAt N points k p
   pub closed : (p : Point) (k : ℕ) → IsBelow N p → IsHead N p.u → ListedAt N points k p → slice_index numbers (place N p) ≢ 0

@@ -3,6 +3,7 @@
 --   IsHead N u                u is the least of its multiples by units, modulo N
 --   IsTurn N u turn           turn.factor is a unit that turns u into a head, turn.head
 --   AreTurns N turns          turns[u] is a turn of u, for each u below N
+--   HasRows N numbers         the list reaches to the end of the row of each head
 --   IsNumbering N numbers     numbers[place N p] is 0 where p names no point, else 1 + the number of its symbol, for p with a head
 --   Marks N p x old new       x was written at the names of p, and at each of them that begins with a head
 --   IsFound N p k             p names a point, and k is the number of its symbol
@@ -30,9 +31,13 @@ pub record IsTurn (N u : ℕ) (turn : Turn) : Type 0 where
   pub turned : (turn.factor * u) % N ≡ turn.head
   pub head : IsHead N turn.head
 
+-- the list has the row of each head
+abbrev pub HasRows : ℕ → List ℕ → Type 0
+HasRows N numbers = (u : ℕ) → u < N → IsHead N u → u * N + N ≤ length numbers
+
 -- in the rows of heads, at the place of each pair stands 0 where it names no point, and otherwise the number after its symbol's
 pub record IsNumbering (N : ℕ) (numbers : List ℕ) : Type 0 where
-  pub size : length numbers ≡ N * N
+  pub rows : HasRows N numbers
   pub none : (p : Point) → IsBelow N p → IsHead N p.u → slice_index numbers (place N p) ≡ 0 → common_divisor N p ≢ 1
   pub some : (p : Point) (k : ℕ) → IsBelow N p → IsHead N p.u → slice_index numbers (place N p) ≡ suc k → (common_divisor N p ≡ 1) × IsNumber N k (normal_form N p)
 

@@ -32,8 +32,9 @@ impl From<AllocError> for LevelFault {
     }
 }
 
-/// A level N with its symbols, and the tables that find their numbers: N^2 + 2 N + m numbers of four
-/// bytes. Contracts see N. Symbols are numbered from 0 to m - 1 in lexicographic order.
+/// A level N with its symbols, and the tables that find their numbers: a row of N numbers of four bytes
+/// for each number up to the greatest divisor below N, 2 N more, and 2 m. Contracts see N. Symbols are
+/// numbered from 0 to m - 1 in lexicographic order.
 #[derive(Debug, Drop)]
 pub struct Level {
     n: u32,
@@ -74,7 +75,7 @@ impl Level {
       matrix_star,
     };
 
-    /// The level n, in N^2 steps and N times the number of units modulo N.
+    /// The level n, in n steps for each divisor of n, and n times those of Euclid's algorithm.
     pub fn open(alloc: Global, n: u32) -> Result<Level, LevelFault>
         ensures limit { IsErrOf result (LevelFault.Limit n) ↔ ((n ≡ 0) ⊎ (MAX_LEVEL < n)) }
         ensures level { IfOk result (λ l. l ≡ n) }
@@ -84,7 +85,7 @@ impl Level {
             return Err(LevelFault::Limit { n });
         }
         let units = units_below(alloc, n)?;
-        let turns = turns_below(alloc, n, &units)?;
+        let turns = turns_below(alloc, n)?;
         let (points, numbers) = numbered(alloc, n, &units, &turns)?;
         Ok(Level {
             n,

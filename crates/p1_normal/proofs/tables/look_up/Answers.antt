@@ -1,4 +1,5 @@
-use Rattle.std.proofs.Common.{◌≡◌, ◌+◌, suc, ◌∙◌, arith, get_or}
+use Rattle.std.proofs.Common.{◌≡◌, ◌<◌, ◌+◌, ◌*◌, suc, ◌∙◌, arith, get_or}
+use Rattle.std.proofs.Math.Nat.{mod-lt}
 use Rattle.p1_normal.specs.declared.tables.Turn.{Turn}
 use Rattle.p1_normal.proofs.Marking.{product_small, small_square}
 use Rattle.p1_normal.proofs.Turns.{turn_at, turned_place, turned_none, turned_number}
@@ -32,12 +33,11 @@ overflow_add-result c = omega (
 )
 
 pub bounds-numbers-turn : goal.bounds-numbers-turn
-bounds-numbers-turn c = omega (
-  arith,
-  turned_place c.args.p.u c.args.p.v c.requires.level.0
-      (turn_at c.args.p.u nothing c.requires.turns c.requires.below.first),
-  c.requires.numbering.size,
-)
+bounds-numbers-turn c =
+    let turn = get_or c.args.turns.now c.args.p.u nothing in
+    let found = turn_at c.args.p.u nothing c.requires.turns c.requires.below.first in
+    let low : turn.head < c.args.n = omega (arith, found.turned, mod-lt (turn.factor * c.args.p.u) c.requires.level.0) in
+    omega (arith, c.requires.numbering.rows turn.head low found.head, mod-lt (turn.factor * c.args.p.v) c.requires.level.0)
 
 pub returns-clause-none : goal.returns-clause-none
 returns-clause-none c = λ e. turned_none c.args.p c.requires.level.0 c.requires.below

@@ -1,4 +1,4 @@
-use Rattle.std.proofs.Common.{◌≡◌, ◌*◌, ◌∙◌, sym, ap, subst, arith, get_or}
+use Rattle.std.proofs.Common.{◌≡◌, ◌*◌, ◌∙◌, sym, ap, subst, arith, length, get_or}
 use Rattle.std.proofs.lemmas.List.{with_items_is}
 use Rattle.p1_normal.specs.declared.tables.Turn.{Turn}
 use Rattle.p1_normal.specs.Tables.{IsHead}
@@ -16,10 +16,10 @@ number_row-requires-clause-head c = subst (IsHead c.args.n) c.if-turns-u.true (t
 pub loop-u-preserved : goal.loop-u-preserved
 loop-u-preserved c = elim c.if-turns-u.branch [
   | then-turns-u+in_ok-kept+in_ok-number_row w ↦
-      let row = w.in_ok-number_row.ensures in
+      let row = w.in_ok-number_row.ensures.sieved in
       sieve_same (ap (λ list. list.items) w.points-is)
       (ap (λ list. list.items) w.numbers-is ∙ with_items_is c.loop-u.numbers w.number_row.new.numbers
-      (row.size ∙ sym c.loop-u.invariant.size ∙ sym c.loop-u.numbers.ok.0)) (row_done c.loop-u.u row)
+      (w.in_ok-number_row.ensures.size ∙ ap length w.deref_mut.ensures.value ∙ sym c.loop-u.numbers.ok.0)) (row_done c.loop-u.u row)
   | else-turns-u w ↦ sieve_same (ap (λ list. list.items) w.points-is) (ap (λ list. list.items) w.numbers-is)
       (row_skipped c.requires.level.0 c.loop-u-test.true (λ head. w.if-turns-u.false
       (turn_own c.args.n c.loop-u.u (get_or c.args.turns.now c.loop-u.u nothing) c.loop-u-test.true
