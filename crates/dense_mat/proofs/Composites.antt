@@ -56,7 +56,7 @@ combination-multiples c v f (x ∷ xs) =
     ∙ sym (scale-plus c (v 0 ⊡ f x) (combination (tail v) (map f xs)))
 
 -- column j of c times the identity is c times the unit vector at j
-scalar_column_vector : (p n c j : ℕ) → j < n → dense p (scalar_column n c j) ≡ residue p c ⊡ unit j
+pub scalar_column_vector : (p n c j : ℕ) → j < n → dense p (scalar_column n c j) ≡ residue p c ⊡ unit j
 scalar_column_vector p n c j l = λ i k. at k (cases_lt k n) i
   where
     inside : (k : ℕ) → k < n → ((nat_eq k j ≡ true) × (k ≡ j)) ⊎ ((nat_eq k j ≡ false) × (k ≢ j))

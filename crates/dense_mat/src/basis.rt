@@ -1,4 +1,5 @@
 ghost use Rattle.std.specs.Prelude.{◌≡◌, ◌↔◌, ◌<◌, ◌≤◌, ℕ, IfOk, IsTrue, length};
+ghost use Rattle.std.specs.List.{range_with_len};
 ghost use Rattle.dense_mat.specs.Echelon.{AreRows, IsEchelon};
 ghost use Rattle.dense_mat.specs.Subspace.{Subspace, subspace, IsBasisOf};
 ghost use Rattle.field_table.specs.Residues.{AreResidues};
@@ -66,13 +67,27 @@ pub fn span_of(
     ))
 }
 
-/// The space of all vectors of this width.
+// The places below n, in order.
+fn places_below(alloc: Global, n: usize) -> Result<Vec<usize>, OutOfMemory>
+    ensures { IfOk result (λ places. places.items ≡ range_with_len 0 n) }
+{
+    let mut places = Vec::with_capacity(alloc, n)?;
+    for k in 0..n {
+        places.push(k)?;
+    }
+    Ok(places)
+}
+
+/// The space of all vectors of this width, by its unit vectors.
 pub fn whole_space(alloc: Global, field: Field, width: u32) -> Result<Basis, OutOfMemory>
     ensures { IfOk result (IsBasisOf field width (EndsBefore width)) }
 {
     let _characteristic = field.characteristic();
-    let columns = scalar_columns(alloc, width as usize, 1)?;
-    span_of(alloc, field, &columns, width)
+    let echelon = Echelon {
+        rows: scalar_columns(alloc, width as usize, 1)?,
+        leads: places_below(alloc, width as usize)?,
+    };
+    Ok(basis_of(field, width, echelon))
 }
 
 /// Whether only the coefficients 0 combine the rows to 0. Costs the elimination of the rows.
