@@ -1,10 +1,10 @@
 ghost use Rattle.std.specs.Prelude.{◌≡◌, ◌<◌, ℕ, All, IfOk, length};
 ghost use Rattle.shared_core.specs.Machines.{HasActResidues, HasResidues};
 
+use crate::spaces::space_at_11;
 use column_flight::{FlightEvent, FlightKey};
 use field_table::Field;
 use op_polynomials::{OpName, Poly};
-use p1_normal::Level;
 use quotient_coords::Space;
 use shared_core::{
     Act, CoreStep, EventFault, Outcome, run_events, runs_are_exact, sessions_learn_more,
@@ -22,7 +22,7 @@ fn laws(_rt: HostRuntime) {
 // Session 2 waits while session 1 computes the column, and then finds it.
 #[test]
 fn one_column_for_two_sessions(rt: HostRuntime) -> Result<(), Fail> {
-    let space = Space::open(rt.alloc(), Level::open(rt.alloc(), 11)?, Field::open(101)?)?;
+    let space = space_at_11(rt.alloc())?;
     let key = FlightKey { n: 2, symbol: 0 };
     let steps = [
         CoreStep {
@@ -71,7 +71,7 @@ fn one_column_for_two_sessions(rt: HostRuntime) -> Result<(), Fail> {
 // A session looks twice at a key that it has claimed; a claim that is left open has no abandonment in the answer.
 #[test]
 fn illegal_and_open(rt: HostRuntime) -> Result<(), Fail> {
-    let space = Space::open(rt.alloc(), Level::open(rt.alloc(), 11)?, Field::open(101)?)?;
+    let space = space_at_11(rt.alloc())?;
     let key = FlightKey { n: 2, symbol: 0 };
     let steps = [
         CoreStep {
@@ -99,7 +99,7 @@ fn illegal_and_open(rt: HostRuntime) -> Result<(), Fail> {
 // A publication of what the session has not claimed is no step.
 #[test]
 fn publication_without_a_claim(rt: HostRuntime) -> Result<(), Fail> {
-    let space = Space::open(rt.alloc(), Level::open(rt.alloc(), 11)?, Field::open(101)?)?;
+    let space = space_at_11(rt.alloc())?;
     let key = FlightKey { n: 2, symbol: 0 };
     let steps = [CoreStep {
         session: 1,
@@ -211,7 +211,7 @@ fn answers(alloc: Global, space: &Space, commit: &Act, line: &[u8]) -> Result<bo
 
 #[test]
 fn schedules_of_two_sessions(rt: HostRuntime) -> Result<(), Fail> {
-    let space = Space::open(rt.alloc(), Level::open(rt.alloc(), 11)?, Field::open(101)?)?;
+    let space = space_at_11(rt.alloc())?;
     let commit = Act::Commit {
         command: 1,
         op: OpName::Star,

@@ -1,17 +1,15 @@
-ghost use Rattle.std.specs.Prelude.{◌≡◌, ◌<◌, [], IfOk, None, length};
+ghost use Rattle.std.specs.Prelude.{◌≡◌, [], IfOk, None};
 ghost use Rattle.std.specs.Arc.{arc_value};
-ghost use Rattle.heilbronn_sets.specs.Merel.{merel_matrices};
-ghost use Rattle.p1_normal.specs.Points.{symbols};
-ghost use Rattle.p1_normal.specs.Units.{gcd};
 ghost use Rattle.turn_board.specs.Passes.{IsIdle, pass_count, view};
 ghost use Rattle.column_flight.specs.Flights.{IsColumnAt, claimer};
 ghost use Rattle.column_flight.specs.Shared.{HasNoClaim, board_of, setting_of};
 
+use crate::spaces::space_at_11;
 use column_flight::{FlightEvent, FlightKey, FlightState, Flights, Gate, GatePoint, Look, NoGate};
-use field_table::{Field, OutOfMemory};
+use field_table::OutOfMemory;
 use hecke_columns::{Column, Walk};
-use heilbronn_sets::{MatrixSet, merel_set};
-use p1_normal::{Level, gcd};
+use heilbronn_sets::merel_set;
+use p1_normal::gcd;
 use quotient_coords::Space;
 use std::alloc::{AllocError, Global};
 use std::sync::atomic::{AtomicU32, Ordering};
@@ -20,33 +18,6 @@ use std::test::Fail;
 use std::thread;
 use std::thread::yield_now;
 use turn_board::Pass;
-
-// The quotient at level 11 and characteristic 101, and Merel's set of a determinant.
-fn opened_at_11(alloc: Global, n: u32) -> Result<(Space, MatrixSet), Fail>
-    ensures some { IfOk result (λ s. 0 < length (symbols s.0.level)) }
-    ensures coprime { IfOk result (λ s. gcd s.1.det s.0.level ≡ 1) }
-    ensures merel { IfOk result (λ s. s.1.list ≡ merel_matrices s.1.det) }
-{
-    let space = Space::open(alloc, Level::open(alloc, 11)?, Field::open(101)?)?;
-    if space.level().count() == 0 || gcd(n, space.level().modulus()) != 1 {
-        return Err(Fail::from("not coprime to 11"));
-    }
-    Ok((space, merel_set(alloc, n)?))
-}
-
-// Flights with one pass.
-fn open_one(alloc: Global, space: &Space) -> Result<(Flights, Pass<FlightState>), OutOfMemory>
-    ensures count { IfOk result (λ o. pass_count (board_of o.0) ≡ 1) }
-    ensures setting { IfOk result (λ o. setting_of o.0 ≡ space.now) }
-    ensures pass { IfOk result (λ o. IsIdle (board_of o.0) 0 o.1) }
-    ensures none { IfOk result (λ o. HasNoClaim (view o.1)) }
-{
-    let (flights, mut passes) = Flights::open(alloc, space, 1)?;
-    let Some(pass) = passes.pop() else {
-        unreachable!()
-    };
-    Ok((flights, pass))
-}
 
 // Flights with two passes.
 fn open_two(
@@ -70,20 +41,6 @@ fn open_two(
     Ok((flights, first, second))
 }
 
-// The state of flights with one pass.
-fn close_one(
-    alloc: Global,
-    flights: Flights,
-    pass: Pass<FlightState>,
-) -> Result<FlightState, AllocError>
-    requires count { pass_count (board_of flights) ≡ 1 }
-    requires pass { IsIdle (board_of flights) 0 pass }
-{
-    let mut passes = Vec::with_capacity(alloc, 1)?;
-    passes.push_reserved(pass);
-    Ok(flights.close(passes))
-}
-
 // The state of flights with two passes.
 fn close_two(
     alloc: Global,
@@ -101,26 +58,34 @@ fn close_two(
     Ok(flights.close(passes))
 }
 
-// The first column, for the pass of this number.
+// The first column of n = 2, for the pass of this number, where there is memory and 2 does not divide the level.
 fn first_column<R: Wait, G: Gate>(
     rt: &R,
     alloc: Global,
     flights: &Flights,
     space: &Space,
-    set: &MatrixSet,
     pass: &mut Pass<FlightState>,
     gate: &G,
-) -> Result<Arc<Column>, OutOfMemory>
+) -> Option<Arc<Column>>
     requires pass { IsIdle (board_of flights.now) (view pass.old).number pass.old }
     requires none { HasNoClaim (view pass.old) }
     requires space { space.now ≡ setting_of flights.now }
-    requires some { 0 < length (symbols space.now.level) }
-    requires coprime { gcd set.now.det space.now.level ≡ 1 }
-    requires merel { set.now.list ≡ merel_matrices set.now.det }
     ensures pass { IsIdle (board_of flights.now) (view pass.old).number pass.new }
     ensures none { HasNoClaim (view pass.new) }
 {
-    flights.column(rt, alloc, pass, space, set, 0, gate)
+    let set = merel_set(alloc, 2).ok()?;
+    if space.level().count() == 0 || gcd(set.det(), space.level().modulus()) != 1 {
+        return None;
+    }
+    flights.column(rt, alloc, pass, space, &set, 0, gate).ok()
+}
+
+// Whether there are two columns, with the same coordinates.
+fn are_equal(first: Option<Arc<Column>>, second: Option<Arc<Column>>) -> bool {
+    match (first, second) {
+        (Some(first), Some(second)) => first.coords() == second.coords(),
+        _ => false,
+    }
 }
 
 // Whether the events are a claim and a publication of the first column of n = 2 by one session.
@@ -173,32 +138,32 @@ fn is_set(word: &AtomicU32) -> bool {
     false
 }
 
-// A look at the first column while another session computes it, and then the column. Answers whether the
-// look found the claim of that session.
+// A look at the first column of n = 2 while another session computes it, and then the column. Answers whether the look
+// found the claim of that session.
 fn look_and_wait<R: Wait>(
     rt: &R,
     alloc: Global,
     flights: &Flights,
     space: &Space,
-    set: &MatrixSet,
     pass: &mut Pass<FlightState>,
     hold: &Hold,
-) -> Result<bool, OutOfMemory>
+) -> Option<bool>
     requires pass { IsIdle (board_of flights.now) (view pass.old).number pass.old }
     requires none { HasNoClaim (view pass.old) }
     requires space { space.now ≡ setting_of flights.now }
-    requires some { 0 < length (symbols space.now.level) }
-    requires coprime { gcd set.now.det space.now.level ≡ 1 }
-    requires merel { set.now.list ≡ merel_matrices set.now.det }
     ensures pass { IsIdle (board_of flights.now) (view pass.old).number pass.new }
     ensures none { HasNoClaim (view pass.new) }
 {
+    let set = merel_set(alloc, 2).ok()?;
+    if space.level().count() == 0 || gcd(set.det(), space.level().modulus()) != 1 {
+        return None;
+    }
     let entered = is_set(&hold.entered);
-    let looked = flights.try_column(rt, alloc, pass, space, &Walk::Set(set), 0, &NoGate);
+    let looked = flights.try_column(rt, alloc, pass, space, &Walk::Set(&set), 0, &NoGate);
     hold.released.store(1, Ordering::SeqCst);
-    let elsewhere = looked?.is_none();
-    let column = first_column(rt, alloc, flights, space, set, pass, &NoGate)?;
-    Ok(entered && elsewhere && column.coords() == [3, 1, 0].as_slice())
+    let elsewhere = looked.ok()?.is_none();
+    let column = first_column(rt, alloc, flights, space, pass, &NoGate)?;
+    Some(entered && elsewhere && column.coords() == [3, 1, 0].as_slice())
 }
 
 // A claim that is given up.
@@ -258,24 +223,18 @@ fn settle(
 }
 
 // The claims of two sessions are given up in turn, and the third session publishes.
-fn settle_after_all(
-    alloc: Global,
-    space: &Space,
-    set: &MatrixSet,
-    state: &mut FlightState,
-) -> Result<bool, OutOfMemory>
+fn settle_after_all(alloc: Global, space: &Space, state: &mut FlightState) -> Result<bool, Fail>
     requires space { state.old.setting ≡ space.now }
     requires new { state.old.events ≡ [] }
-    requires some { 0 < length (symbols space.now.level) }
-    requires coprime { gcd set.now.det space.now.level ≡ 1 }
-    requires merel { set.now.list ≡ merel_matrices set.now.det }
 {
-    let key = FlightKey {
-        n: set.det(),
-        symbol: 0,
-    };
+    let set = merel_set(alloc, 2)?;
+    let n = set.det();
+    if space.level().count() == 0 || gcd(n, space.level().modulus()) != 1 {
+        return Err(Fail::from("2 divides the level"));
+    }
+    let key = FlightKey { n, symbol: 0 };
     let all = give_up_in_turn(state, key, 100)?;
-    let column = Arc::new(alloc, Column::compute(alloc, space, set, 0)?)?;
+    let column = Arc::new(alloc, Column::compute(alloc, space, &set, 0)?)?;
     let settled = settle(state, 3, key, column)?;
     Ok(all && settled)
 }
@@ -283,11 +242,11 @@ fn settle_after_all(
 #[test]
 fn a_session_takes_a_column(rt: HostRuntime) -> Result<(), Fail> {
     let alloc = rt.alloc();
-    let (space, set) = opened_at_11(alloc, 2)?;
-    let (flights, mut pass) = open_one(alloc, &space)?;
-    let column = first_column(&rt, alloc, &flights, &space, &set, &mut pass, &NoGate)?;
-    assert!(rt; column.coords() == [3, 1, 0].as_slice());
-    let state = close_one(alloc, flights, pass)?;
+    let space = space_at_11(alloc)?;
+    let (flights, mut first, second) = open_two(alloc, &space)?;
+    let column = first_column(&rt, alloc, &flights, &space, &mut first, &NoGate);
+    assert!(rt; column.is_some_and(|it| it.coords() == [3, 1, 0].as_slice()));
+    let state = close_two(alloc, flights, first, second)?;
     assert!(rt; state.published() == 1);
     assert!(rt; is_one_flight(state.events(), 1));
     Ok(())
@@ -297,16 +256,16 @@ fn a_session_takes_a_column(rt: HostRuntime) -> Result<(), Fail> {
 #[test]
 fn a_published_column_is_shared(rt: HostRuntime) -> Result<(), Fail> {
     let alloc = rt.alloc();
-    let (space, set) = opened_at_11(alloc, 2)?;
-    let (flights, mut pass) = open_one(alloc, &space)?;
+    let space = space_at_11(alloc)?;
+    let (flights, mut first, second) = open_two(alloc, &space)?;
     let gate = Counter {
         columns: AtomicU32::new(0),
     };
-    let first = first_column(&rt, alloc, &flights, &space, &set, &mut pass, &gate)?;
-    let again = first_column(&rt, alloc, &flights, &space, &set, &mut pass, &gate)?;
-    assert!(rt; first.coords() == again.coords());
+    let column = first_column(&rt, alloc, &flights, &space, &mut first, &gate);
+    let again = first_column(&rt, alloc, &flights, &space, &mut first, &gate);
+    assert!(rt; are_equal(column, again));
     assert!(rt; gate.columns.load(Ordering::SeqCst) == 1);
-    let state = close_one(alloc, flights, pass)?;
+    let state = close_two(alloc, flights, first, second)?;
     assert!(rt; is_one_flight(state.events(), 1));
     Ok(())
 }
@@ -315,17 +274,17 @@ fn a_published_column_is_shared(rt: HostRuntime) -> Result<(), Fail> {
 #[test]
 fn two_threads_share_a_column(rt: HostRuntime) -> Result<(), Fail> {
     let alloc = rt.alloc();
-    let (space, set) = opened_at_11(alloc, 2)?;
+    let space = space_at_11(alloc)?;
     let (flights, mut first, mut second) = open_two(alloc, &space)?;
     let gate = Counter {
         columns: AtomicU32::new(0),
     };
     let (by_first, by_second) = thread::join_mut(
         &rt,
-        &mut || first_column(&rt, alloc, &flights, &space, &set, &mut first, &gate),
-        &mut || first_column(&rt, alloc, &flights, &space, &set, &mut second, &gate),
+        &mut || first_column(&rt, alloc, &flights, &space, &mut first, &gate),
+        &mut || first_column(&rt, alloc, &flights, &space, &mut second, &gate),
     );
-    assert!(rt; by_first?.coords() == by_second?.coords());
+    assert!(rt; are_equal(by_first, by_second));
     assert!(rt; gate.columns.load(Ordering::SeqCst) == 1);
     let state = close_two(alloc, flights, first, second)?;
     assert!(rt; is_one_flight(state.events(), 1) || is_one_flight(state.events(), 2));
@@ -336,7 +295,7 @@ fn two_threads_share_a_column(rt: HostRuntime) -> Result<(), Fail> {
 #[test]
 fn a_look_does_not_wait(rt: HostRuntime) -> Result<(), Fail> {
     let alloc = rt.alloc();
-    let (space, set) = opened_at_11(alloc, 2)?;
+    let space = space_at_11(alloc)?;
     let (flights, mut first, mut second) = open_two(alloc, &space)?;
     let hold = Hold {
         entered: AtomicU32::new(0),
@@ -344,11 +303,11 @@ fn a_look_does_not_wait(rt: HostRuntime) -> Result<(), Fail> {
     };
     let (by_first, by_second) = thread::join_mut(
         &rt,
-        &mut || first_column(&rt, alloc, &flights, &space, &set, &mut first, &hold),
-        &mut || look_and_wait(&rt, alloc, &flights, &space, &set, &mut second, &hold),
+        &mut || first_column(&rt, alloc, &flights, &space, &mut first, &hold),
+        &mut || look_and_wait(&rt, alloc, &flights, &space, &mut second, &hold),
     );
-    assert!(rt; by_first?.coords() == [3, 1, 0].as_slice());
-    assert!(rt; by_second?);
+    assert!(rt; by_first.is_some_and(|it| it.coords() == [3, 1, 0].as_slice()));
+    assert!(rt; by_second == Some(true));
     let state = close_two(alloc, flights, first, second)?;
     assert!(rt; is_one_flight(state.events(), 1));
     Ok(())
@@ -358,9 +317,9 @@ fn a_look_does_not_wait(rt: HostRuntime) -> Result<(), Fail> {
 #[test]
 fn claims_that_are_given_up_leave_the_key_free(rt: HostRuntime) -> Result<(), Fail> {
     let alloc = rt.alloc();
-    let (space, set) = opened_at_11(alloc, 2)?;
+    let space = space_at_11(alloc)?;
     let mut state = FlightState::new(alloc, &space);
-    assert!(rt; settle_after_all(alloc, &space, &set, &mut state)?);
+    assert!(rt; settle_after_all(alloc, &space, &mut state)?);
     assert!(rt; state.published() == 1);
     assert!(rt; state.events().len() == 202);
     assert!(rt; is_one_flight(&state.events()[200..], 3));

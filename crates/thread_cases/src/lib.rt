@@ -9,4 +9,6 @@ mod cores;
 #[cfg(test)]
 mod flights;
 #[cfg(test)]
+mod spaces;
+#[cfg(test)]
 mod versions;

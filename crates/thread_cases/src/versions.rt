@@ -7,9 +7,9 @@ ghost use Rattle.split_state.specs.Versions.{IsVersion};
 ghost use Rattle.turn_board.specs.Passes.{IsOf, pass_count, view};
 ghost use Rattle.split_versions.specs.Shared.{board_of, setting_of};
 
+use crate::spaces::space_at_11;
 use field_table::Field;
 use op_polynomials::{OpName, Poly, SplitEntry};
-use p1_normal::Level;
 use quotient_coords::Space;
 use reply_text::MAX_VERSIONS;
 use split_state::Splitting;
@@ -24,11 +24,6 @@ use turn_board::Pass;
 #[test]
 fn prefixes(_rt: HostRuntime) {
     versions_of_prefixes();
-}
-
-// The space at level 11 and characteristic 101.
-fn space_at_11(alloc: Global) -> Result<Space, Fail> {
-    Ok(Space::open(alloc, Level::open(alloc, 11)?, Field::open(101)?)?)
 }
 
 // A split by star that leaves each part as it is, of the first session.
