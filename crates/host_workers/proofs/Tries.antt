@@ -170,10 +170,10 @@ stale_try m n known v old mid new same within goes count room (later, longer) =
     let less : length old ≤ length mid = prefix-length old mid goes.begins in
     record {
       goes = goes_on_then maker_of (n + 1) old mid new goes (subst (λ k. GoesOn maker_of (k + 1) mid new) same later);
-      longer = omega (arith, less, longer);
-      room = omega (arith, less, count, room);
+      learnt = omega (arith, less, count);
+      longer = omega (arith, count, longer);
+      room = room;
       no_earlier = omega (arith, within, less, count);
-      within = omega (arith, count, longer);
     }
 
 -- ---- the flights
@@ -274,9 +274,9 @@ stale_after g m n line known mid reached old log new o same less goes is h =
     record {
       goes = goes_on_then maker_of (n + 1) old log new goes (subst (λ k. GoesOn maker_of (k + 1) log new) same stale.goes);
       no_earlier = omega (arith, less, stale.no_earlier);
-      within = stale.within;
-      longer = stale.longer;
-      room = stale.room;
+      within = omega (arith, stale.longer);
+      longer = omega (arith, stale.learnt, stale.longer);
+      room = omega (arith, stale.learnt, stale.room);
     }
 
 pub flies_after : (g : Ground) (m n : ℕ) (line : NumberedLine) (old mid new : List FlightEvent) (o : Option ReplyLine) (r : ReplyLine) → m ≡ n

@@ -19,8 +19,8 @@
 --   FliesLine g s line old r new  what a command line with this reply line did on the flights: it asked for the columns that it demands, and
 --                                 they were published, where its reply is no want of memory
 --   IsStale s known old reached new
---                                 the split of a line was stale: the list went on meanwhile, from fewer splits than the most; nothing that
---                                 it gained names the session
+--                                 the split of a line was stale: the session learnt the list, of fewer splits than the most (reached), and
+--                                 the list went on before its commit; nothing that it gained names the session
 --   TriesLine g s line known old o reached new
 --                                 the reply line of a line, or none where its split was stale
 --   FliesTry g s line old o new   what this did on the flights
@@ -93,10 +93,10 @@ pub record FliesLine (g : Ground) (s : ℕ) (line : NumberedLine) (old : List Fl
 
 pub record IsStale (s known : ℕ) (old : List SplitEntry) (reached : ℕ) (new : List SplitEntry) : Type 0 where
   pub goes : GoesOn session_of s old new
-  pub longer : length old < length new
-  pub room : length old < MAX_VERSIONS
+  pub learnt : length old ≤ reached
+  pub longer : reached < length new
+  pub room : reached < MAX_VERSIONS
   pub no_earlier : known ≤ reached
-  pub within : reached ≤ length new
 
 abbrev pub TriesLine : Ground → ℕ → ℕ × NumberedLine → ℕ → List SplitEntry → Option ReplyLine → ℕ → List SplitEntry → Type 0
 TriesLine g s line known old (Some r) reached new = AnswersLine g s line known old r reached new
