@@ -4,7 +4,7 @@
 --   command_by_form line w   what a line is read as that has the form of the command w, if of any
 --   command_of text          the command that a line is, or the first refusal that applies: its grammar is judged before any limit
 --   IsIndexed op                 the index n of an operator T_n is within its limits
---   IsWithin command             the indices, terms, coefficients and coordinates of a command are within their limits
+--   IsWithin command             the index of a command, and how many terms, coefficients and coordinates it has, are within their limits
 --   AnswersCommand result read   the result is what is read, but where memory ran out
 use Rattle.std.specs.Prelude.{◌≡◌, ℕ, ◌<◌, ◌≤◌, ◌^◌, pos, List, length, get_or, Option, Some, None, Result, Ok, Err}
 use Rattle.text_lines.specs.Lines.{tokens}
