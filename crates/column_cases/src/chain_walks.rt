@@ -1,18 +1,8 @@
+use crate::merel_sets::divisor_sum;
 use heilbronn_chains::{chains, merel_by_chains, next, starts};
 use heilbronn_sets::{SetFault, merel_set};
 use p1_normal::Matrix;
 use std::test::Fail;
-
-// The sum of the divisors of n, by trial.
-fn divisor_sum(n: usize) -> usize {
-    let mut sum = 0usize;
-    for d in 0..n {
-        if n % (d + 1) == 0 {
-            sum = sum.saturating_add(d + 1);
-        }
-    }
-    sum
-}
 
 // The matrix after a matrix, and the end of a chain.
 #[test]

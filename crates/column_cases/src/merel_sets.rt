@@ -11,8 +11,8 @@ fn starts(list: &[Matrix]) -> usize {
     list.iter().filter(|m| m.b == 0).count()
 }
 
-// The sum of the divisors of n, by trial.
-fn divisor_sum(n: usize) -> usize {
+/// The sum of the divisors of n, by trial.
+pub fn divisor_sum(n: usize) -> usize {
     let mut sum = 0usize;
     for d in 0..n {
         if n % (d + 1) == 0 {
