@@ -3,12 +3,14 @@
 --   is_seed digits     1 to 20 digits, leading zeros allowed, of a number below 2 to the 64
 --   seed_of words      the number that follows the word gen, where the words are these two
 --   Stream             the bytes that a source has left or that a sink has taken, where it tells them
+--   KeepsCounts ..     the input's count of faults stands unless the status is ReadFault, and the output's unless it is WriteFault
 --   Writes R bytes P   the bytes are a script, and P holds of the text of a run of it, in whose history each version is a stable direct sum of the whole
 --                      space that refines the one before it
 --   ReadsScript ..     the script of an input or the status of a run without one, from the stream and its count of faults before and after:
 --     script           the bytes that were left are that script, and the input was read to its end
 --     status           it is one of ReadFault, TooLong, BadScript and OutOfMemory, with what `LeavesRun` says of each
---   WritesTranscript ..  a text was appended (Done), or a part of it and the count of faults rose (WriteFault)
+--     faultless        with each end but ReadFault the count of faults stands
+--   WritesTranscript ..  a text was appended and the count of faults stands (Done), or a part of it and the count rose (WriteFault)
 --   LeavesRun R ..     what a run leaves, from the streams and their counts of faults before and after, and its status:
 --     done             the text of a run of the script that was left was appended
 --     ended            the input was read to its end, also where it is no script
@@ -19,6 +21,7 @@
 --     nothing          nothing is written with another status
 --     words            the status is not that of other words
 --     reads, writes    no count of faults falls
+--     faultless        each stands unless the status tells of its fault
 --   LeavesUnread ..    the streams as they were
 --   Sums seed P        P holds of the summary of a run of the script that is made from the seed, in whose history each version is a stable direct sum
 --                      as above
@@ -29,6 +32,7 @@
 --     nothing          nothing is written for want of memory
 --     outcome          there is no other status
 --     writes           the count does not fall
+--     faultless        it stands unless the status is WriteFault
 use Rattle.std.specs.Prelude.{◌≡◌, ◌≢◌, ◌⊎◌, ℕ, ◌^◌, ◌≤◌, Bool, false, ◌&&◌, if◌then◌else◌, nat_le, nat_lt, codes, List, [], ◌∷◌, length, Option, Some, None, IfSome, Result, Ok, Err, OnOk, IfOk, IfErr, string_bytes, String}
 use Rattle.std.specs.Global.{Global}
 use Rattle.std.specs.Io.KnownBytes.{Appends, Keeps, IsAtEnd}
@@ -54,6 +58,10 @@ use Rattle.host_workers.specs.declared.status.TheConstants.{MAX_INPUT}
 abbrev pub Stream : Type 0
 Stream = Option (List ℕ)
 
+pub record KeepsCounts (read_before read_after write_before write_after : ℕ) (status : Status) : Type 0 where
+  pub reads : status ≢ ReadFault → read_after ≡ read_before
+  pub writes : status ≢ WriteFault → write_after ≡ write_before
+
 pub record Writes (IsRun : ScriptText → Transcript → Type 0) (bytes : List ℕ) (P : List ℕ → Type 0) : Type 0 where
   pub script : ScriptText
   pub is_script : script_of bytes ≡ Ok script
@@ -72,6 +80,7 @@ pub record ReadsScript (left_before left_after : Stream) (read_before read_after
       → IfSome left_before (λ bytes. script_of bytes ≡ Err (faults.BadScript line cause))
   pub status : IfErr result (λ status. (status ≢ Done) × (status ≢ WriteFault) × (status ≢ Usage))
   pub reads : read_before ≤ read_after
+  pub faultless : result ≢ Err ReadFault → read_after ≡ read_before
 
 pub record WritesTranscript (written_before written_after : Stream) (write_before write_after : ℕ) (transcript : Transcript) (status : Status) : Type 0 where
   pub done : status ≡ Done → Appends written_before written_after (transcript_text transcript)
@@ -79,6 +88,7 @@ pub record WritesTranscript (written_before written_after : Stream) (write_befor
   pub write_fault : status ≡ WriteFault → Rose write_before write_after
   pub outcome : (status ≡ Done) ⊎ (status ≡ WriteFault)
   pub writes : write_before ≤ write_after
+  pub faultless : status ≢ WriteFault → write_after ≡ write_before
 
 pub record LeavesUnread (left_before left_after written_before written_after : Stream) (read_before read_after write_before write_after : ℕ) : Type 0 where
   pub left : left_after ≡ left_before
@@ -101,6 +111,7 @@ pub record LeavesRun (IsRun : ScriptText → Transcript → Type 0) (left_before
   pub nothing : status ≢ Done → status ≢ WriteFault → Keeps written_before written_after
   pub reads : read_before ≤ read_after
   pub writes : write_before ≤ write_after
+  pub faultless : KeepsCounts read_before read_after write_before write_after status
 
 abbrev pub are_word : List (String Global) → List ℕ → Bool
 are_word [] w = false
@@ -130,3 +141,4 @@ pub record LeavesSummary (seed : ℕ) (written_before written_after : Stream) (w
   pub nothing : status ≡ OutOfMemory → Keeps written_before written_after
   pub outcome : (status ≡ Done) ⊎ ((status ≡ WriteFault) ⊎ (status ≡ OutOfMemory))
   pub writes : write_before ≤ write_after
+  pub faultless : status ≢ WriteFault → write_after ≡ write_before

@@ -1,7 +1,7 @@
 ghost use Rattle.std.specs.Prelude.{◌≡◌, ◌↔◌, ℕ, codes, true, false, Some, None};
 ghost use Rattle.session_core.specs.SoloRuns.{IsSoloRun};
 ghost use Rattle.session_core.specs.Transcripts.{IsLegalRun};
-ghost use Rattle.host_workers.specs.Runs.{LeavesRun, LeavesSummary, LeavesUnread, are_word, seed_of};
+ghost use Rattle.host_workers.specs.Runs.{KeepsCounts, LeavesRun, LeavesSummary, LeavesUnread, are_word, seed_of};
 
 use crate::generation::run_generated;
 use crate::serve::run_serve;
@@ -45,6 +45,8 @@ pub fn run<R: Threads + Wait + Sync, I: Source, O: Sink, G: Gate>(
     ensures generated { (seed : ℕ) → seed_of words.now ≡ Some seed →
         (I.left input.new ≡ I.left input.old) × (I.faults input.new ≡ I.faults input.old)
         × LeavesSummary seed (O.written output.old) (O.written output.new)
+        (O.faults output.old) (O.faults output.new) result }
+    ensures faultless { KeepsCounts (I.faults input.old) (I.faults input.new)
         (O.faults output.old) (O.faults output.new) result }
 {
     if are_word(words, b"solo") {

@@ -1,6 +1,6 @@
 //! Where bytes come from and where they go: sources and sinks that count their faults, in memory and over
 //! std's readers and writers, and what reads or writes a whole text. A fault is answered only where the
-//! count of the source or sink that was handed in rose in that call.
+//! count of the source or sink that was handed in rose in that call, and a call that succeeds leaves that count as it was.
 #![tactic(auto)]
 
 mod buffer;

@@ -21,7 +21,7 @@ pub trait Sink {
     ghost faults: { Self → ℕ };
 
     /// Appends the first of the bytes, and answers their number, at least 1. A call that fails appends
-    /// nothing and counts a fault.
+    /// nothing and counts a fault; one that succeeds leaves the count as it was.
     fn write(&mut self, bytes: &[u8]) -> Result<usize, Failed>
         requires { 0 < length bytes.now }
         ensures bound { TakesSome result bytes.now }
@@ -29,42 +29,47 @@ pub trait Sink {
         ensures cause { HasCause (faults self.old) (faults self.new) result };
 }
 
-/// Any writer of std, which tells nothing of its content. A write that takes nothing is a fault. Contracts see
-/// the count of its faults.
+/// Any writer of std, and a count of its faults. A write that takes nothing is a fault. The sink tells what the
+/// writer tells of the bytes that it holds.
 #[derive(Drop)]
-pub struct WriterSink<W: Write> {
+pub struct WriterSink<W> {
     inner: W,
     faults: u64,
 }
 
-impl<W: Write> Model for WriterSink<W> {
-    ghost use Rattle.std.specs.Prelude.{ℕ};
-
-    ghost Value = { ℕ };
-
-    ghost view = { λ s. s.faults };
-}
-
 impl<W: Write> WriterSink<W> {
+    ghost use Rattle.sym_io.specs.Adapters.{sink_inner, sink_faults};
+
     /// A sink with no fault yet.
     pub fn new(inner: W) -> Self
-        ensures { result ≡ 0 }
+        ensures inner { sink_inner result ≡ inner }
+        ensures faults { sink_faults result ≡ 0 }
     {
         WriterSink { inner, faults: 0 }
+    }
+
+    /// The writer, as the calls left it.
+    pub fn into_inner(self) -> W
+        ensures { result ≡ sink_inner self }
+    {
+        self.inner
     }
 }
 
 impl<W: Write> Sink for WriterSink<W> {
-    ghost written = { λ _. None };
+    ghost use Rattle.sym_io.specs.Adapters.{sink_inner, sink_faults};
 
-    ghost faults = { λ count. count };
+    ghost written = { λ s. W.contents (sink_inner s) };
+
+    ghost faults = { sink_faults };
 
     fn write(&mut self, bytes: &[u8]) -> Result<usize, Failed>
         requires { 0 < length bytes.now }
         ensures bound { TakesSome result bytes.now }
-        ensures bytes { WriteAppends None None result bytes.now }
-        ensures cause { HasCause self.old self.new result }
-        ensures faults { CountsFaults self.old self.new result }
+        ensures bytes { WriteAppends (W.contents (sink_inner self.old))
+            (W.contents (sink_inner self.new)) result bytes.now }
+        ensures cause { HasCause (sink_faults self.old) (sink_faults self.new) result }
+        ensures faults { CountsFaults (sink_faults self.old) (sink_faults self.new) result }
     {
         match self.inner.write(bytes) {
             Ok(count) if count > 0 => Ok(count),

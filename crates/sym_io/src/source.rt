@@ -18,7 +18,8 @@ pub trait Source {
     ghost faults: { Self → ℕ };
 
     /// Moves the first bytes left to the front of the buffer, and answers their number. None are moved only
-    /// at the end of the input. A call that fails takes nothing and counts a fault.
+    /// at the end of the input. A call that fails takes nothing and counts a fault; one that succeeds leaves the
+    /// count as it was.
     fn read(&mut self, buf: &mut [u8]) -> Result<usize, Failed>
         requires { 0 < length buf.old }
         ensures bound { ReadsAtMost result buf.new }
@@ -26,41 +27,47 @@ pub trait Source {
         ensures cause { HasCause (faults self.old) (faults self.new) result };
 }
 
-/// Any reader of std, which tells nothing of its content. Contracts see the count of its faults.
+/// Any reader of std, and a count of its faults. The source tells what the reader tells of the bytes that it
+/// has left.
 #[derive(Drop)]
-pub struct ReaderSource<R: Read> {
+pub struct ReaderSource<R> {
     inner: R,
     faults: u64,
 }
 
-impl<R: Read> Model for ReaderSource<R> {
-    ghost use Rattle.std.specs.Prelude.{ℕ};
-
-    ghost Value = { ℕ };
-
-    ghost view = { λ s. s.faults };
-}
-
 impl<R: Read> ReaderSource<R> {
+    ghost use Rattle.sym_io.specs.Adapters.{source_inner, source_faults};
+
     /// A source with no fault yet.
     pub fn new(inner: R) -> Self
-        ensures { result ≡ 0 }
+        ensures inner { source_inner result ≡ inner }
+        ensures faults { source_faults result ≡ 0 }
     {
         ReaderSource { inner, faults: 0 }
+    }
+
+    /// The reader, as the calls left it.
+    pub fn into_inner(self) -> R
+        ensures { result ≡ source_inner self }
+    {
+        self.inner
     }
 }
 
 impl<R: Read> Source for ReaderSource<R> {
-    ghost left = { λ _. None };
+    ghost use Rattle.sym_io.specs.Adapters.{source_inner, source_faults};
 
-    ghost faults = { λ count. count };
+    ghost left = { λ s. R.remaining (source_inner s) };
+
+    ghost faults = { source_faults };
 
     fn read(&mut self, buf: &mut [u8]) -> Result<usize, Failed>
         requires { 0 < length buf.old }
         ensures bound { ReadsAtMost result buf.new }
-        ensures bytes { ReadConsumes None None result buf.new }
-        ensures cause { HasCause self.old self.new result }
-        ensures faults { CountsFaults self.old self.new result }
+        ensures bytes { ReadConsumes (R.remaining (source_inner self.old))
+            (R.remaining (source_inner self.new)) result buf.new }
+        ensures cause { HasCause (source_faults self.old) (source_faults self.new) result }
+        ensures faults { CountsFaults (source_faults self.old) (source_faults self.new) result }
     {
         match self.inner.read(buf) {
             Ok(count) => Ok(count),

@@ -1,4 +1,4 @@
-ghost use Rattle.std.specs.Prelude.{◌≡◌, ◌≤◌, ℕ, length, IsErrOf, OnOk, IfOk, IfSome, vec_len};
+ghost use Rattle.std.specs.Prelude.{◌≡◌, ◌≢◌, ◌≤◌, Err, ℕ, length, IsErrOf, OnOk, IfOk, IfSome, vec_len};
 ghost use Rattle.std.specs.Io.KnownBytes.{Appends, IsAtEnd};
 ghost use Rattle.sym_io.specs.Causes.{HasCause, Rose};
 ghost use Rattle.sym_io.specs.Reading.{TakesWithin};
@@ -24,6 +24,7 @@ pub fn read_all<I: Source>(
     ensures too_long { TakesWithin (I.left input.old) (I.left input.new) limit
         (IsErrOf result ReadAllFault.TooLong) }
     ensures faults { I.faults input.old ≤ I.faults input.new }
+    ensures faultless { result ≢ Err ReadAllFault.ReadFault → I.faults input.new ≡ I.faults input.old }
     ensures read_fault { IsErrOf result ReadAllFault.ReadFault
         → Rose (I.faults input.old) (I.faults input.new) }
 {

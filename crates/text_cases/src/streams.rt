@@ -41,5 +41,8 @@ fn writes_a_whole_text(rt: HostRuntime) -> Result<(), Fail> {
     buffer.put(&mut writer, b"transcript ")?;
     buffer.put(&mut writer, &[b'1'; 9000])?;
     buffer.flush(&mut writer)?;
+    let all = writer.into_inner();
+    assert!(rt; all.len() == 9011);
+    assert!(rt; all.starts_with(b"transcript 1"));
     Ok(())
 }

@@ -1,4 +1,4 @@
-use Rattle.std.proofs.Common.{arith}
+use Rattle.std.proofs.Common.{◌∙◌}
 use Rattle.std.proofs.Math.ListN.{drop_of_length-le}
 use Rattle.sym_io.proofs.Buffers.{BuffersText-append, BuffersText-nothing, BuffersText-failed, drop_item}
 use Rattle.reply_text.proofs.put.put_each.Goals as goal
@@ -23,7 +23,7 @@ loop-item-preserved g c =
     record {
       puts = λ written kept result left.
           c.loop-item.invariant.puts written kept result (rw items (BuffersText-append _ _ _ _ _ _ _ _ _ _ item left));
-      faults = omega (arith, c.in_ok-put.ensures.cause.later, c.in_ok-put-2.ensures.cause.later);
+      faults = c.in_ok-put-2.ensures.cause.stands ∙ c.in_ok-put.ensures.cause.stands ∙ c.loop-item.invariant.faults;
     }
 
 pub returns-clause-puts : goal.returns-clause-puts

@@ -1,4 +1,4 @@
-use Rattle.std.proofs.Common.{ℕ, ◌≤◌, List, ◌++◌, Result, flat_map, drop}
+use Rattle.std.proofs.Common.{◌≡◌, ℕ, List, ◌++◌, Result, flat_map, drop}
 use Rattle.std.specs.declared.option.Option.{Option}
 use Rattle.sym_io.specs.declared.fault.Failed.{Failed}
 use Rattle.sym_io.specs.Writing.{BuffersText}
@@ -12,5 +12,5 @@ invariant-loop-item g l =
           (flat_map (λ item. l.before ++ g.P.Put.text item) (drop l.item-index l.items)) result
           → BuffersText (g.O.Sink.written l.initial.output) written l.initial.buffer kept
           (flat_map (λ item. l.before ++ g.P.Put.text item) l.items) result;
-      faults : g.O.Sink.faults l.initial.output ≤ g.O.Sink.faults l.output;
+      faults : g.O.Sink.faults l.output ≡ g.O.Sink.faults l.initial.output;
     }

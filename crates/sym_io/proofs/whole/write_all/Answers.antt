@@ -1,4 +1,4 @@
-use Rattle.std.proofs.Common.{◌-◌, length, take, drop, arith, length-drop}
+use Rattle.std.proofs.Common.{◌∙◌, ◌-◌, length, take, drop, arith, length-drop}
 use Rattle.std.proofs.lemmas.List.{length-take}
 use Rattle.sym_io.proofs.Buffers.{Appends-take-add}
 use Rattle.sym_io.proofs.whole.write_all.Goals as goal
@@ -14,5 +14,5 @@ loop-at-preserved g c =
         length-take (length c.args.bytes.now - c.loop-at.at) (drop c.loop-at.at c.args.bytes.now),
       );
       appended = Appends-take-add _ _ _ c.loop-at.at c.in_ok-at.field-0 c.args.bytes.now c.loop-at.invariant.appended c.in_ok-at.ensures.bytes;
-      faults = omega (arith, c.in_ok-at.ensures.cause.later, c.loop-at.invariant.faults);
+      faults = c.in_ok-at.ensures.cause.stands ∙ c.loop-at.invariant.faults;
     }

@@ -1,4 +1,4 @@
-use Rattle.std.proofs.Common.{◌-◌, ◌≤◌, take, length}
+use Rattle.std.proofs.Common.{◌≡◌, ◌-◌, ◌≤◌, take, length}
 use Rattle.std.specs.Io.KnownBytes.{Appends}
 use Rattle.sym_io.proofs.whole.write_all.Given as goal
 
@@ -7,7 +7,7 @@ invariant-loop-at g l =
     record {
       within : l.at ≤ length l.bytes;
       appended : Appends (g.O.Sink.written l.initial.output) (g.O.Sink.written l.output) (take l.at l.bytes);
-      faults : g.O.Sink.faults l.initial.output ≤ g.O.Sink.faults l.output;
+      faults : g.O.Sink.faults l.output ≡ g.O.Sink.faults l.initial.output;
     }
 
 abbrev pub decreases-loop-at : goal.decreases-loop-at

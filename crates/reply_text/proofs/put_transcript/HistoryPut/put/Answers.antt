@@ -1,4 +1,4 @@
-use Rattle.std.proofs.Common.{arith}
+use Rattle.std.proofs.Common.{◌∙◌, arith}
 use Rattle.std.proofs.Math.ListN.{drop_of_length-le}
 use Rattle.sym_io.proofs.Buffers.{BuffersText-append, BuffersText-nothing, BuffersText-failed, drop_item}
 use Rattle.reply_text.proofs.put_transcript.HistoryPut.put.Goals as goal
@@ -19,7 +19,7 @@ loop-split-preserved g c =
       puts = λ written kept result others.
           c.loop-split.invariant.puts written kept result
           (rw left (BuffersText-append _ _ _ _ _ _ _ _ _ _ c.in_ok-put.ensures.puts others));
-      faults = omega (arith, c.in_ok-put.ensures.cause.later);
+      faults = c.in_ok-put.ensures.cause.stands ∙ c.loop-split.invariant.faults;
     }
 
 pub returns-clause-puts : goal.returns-clause-puts

@@ -1,4 +1,4 @@
-use Rattle.std.proofs.Common.{arith}
+use Rattle.std.proofs.Common.{◌∙◌, arith}
 use Rattle.std.proofs.Math.ListN.{drop_of_length-le}
 use Rattle.sym_io.proofs.Buffers.{BuffersText-append, BuffersText-nothing, BuffersText-failed, drop_item}
 use Rattle.reply_text.proofs.LineLemmas.{ended-session_lines}
@@ -26,7 +26,7 @@ loop-session-preserved g c =
           c.loop-session.invariant.puts written kept result
           (rw (left, ended-session_lines c.loop-session.number c.session-item.result)
           (BuffersText-append _ _ _ _ _ _ _ _ _ _ block others));
-      faults = omega (arith, c.in_ok-put.ensures.cause.later);
+      faults = c.in_ok-put.ensures.cause.stands ∙ c.loop-session.invariant.faults;
     }
 
 pub returns-clause-puts : goal.returns-clause-puts
