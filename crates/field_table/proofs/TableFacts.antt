@@ -1,4 +1,4 @@
--- The numbers of the table are primes below 2^24, and so are the two that come later.
+-- The numbers of the table are primes below 2^24.
 use Rattle.std.proofs.Common.{◌≡◌, ◌≢◌, ◌<◌, ◌^◌, ℕ, List, [], ◌∷◌, refl, sym, subst, eqb-true, true, nat_eq, nat_lt, ltb-true, ⊎_elim}
 use Rattle.std.proofs.lemmas.Bool.{or_cases}
 use Rattle.std.specs.List.{list_any}
@@ -24,7 +24,8 @@ all_small_primes : Each IsSmallPrime CHARACTERISTICS
 all_small_primes = more (by_trial 0 2 refl refl) (more (by_trial 0 3 refl refl) (more (by_trial 1 5 refl refl) (more (by_trial 1 7 refl refl)
     (more (by_trial 2 11 refl refl) (more (by_trial 2 13 refl refl) (more (by_trial 3 17 refl refl) (more (by_trial 9 101 refl refl)
     (more (by_trial 30 1009 refl refl) (more (by_trial 99 10007 refl refl)
-    (more (by_trial 177 32003 refl refl) (more (by_trial 254 65521 refl refl) none)))))))))))
+    (more (by_trial 177 32003 refl refl) (more (by_trial 254 65521 refl refl) (more (by_trial 999 1000003 refl refl)
+    (more (by_trial 4095 16777213 refl refl) none)))))))))))))
 
 -- what holds of each number of a list holds of a number that the test finds there
 at_found : (P : ℕ → Type 0) (p : ℕ) (qs : List ℕ) → Each P qs → list_any (nat_eq p) qs ≡ true → P p
@@ -43,13 +44,6 @@ listed_small p listed = (at_found IsSmallPrime p CHARACTERISTICS all_small_prime
 -- a listed number is above 1
 pub listed_above_one : (p : ℕ) → IsListed p → 1 < p
 listed_above_one p listed = (listed_prime p listed).above_one
-
--- the two characteristics that come later
-pub prime-1000003 : IsPrime 1000003
-prime-1000003 = prime_by_trial 1000 1000003 refl
-
-pub prime-16777213 : IsPrime 16777213
-prime-16777213 = prime_by_trial 4095 16777213 refl
 
 -- a residue other than 0 of a listed characteristic has an inverse
 pub listed_inverse : (p : ℕ) → IsListed p → (a : Residue p) → a ≢ residue p 0 → (b : Residue p) × (a ⊗ b ≡ residue p 1)

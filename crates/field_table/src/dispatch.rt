@@ -26,6 +26,8 @@ macro_rules! with_characteristic {
             10007 => $call::<10007>($($argument),*),
             32003 => $call::<32003>($($argument),*),
             65521 => $call::<65521>($($argument),*),
+            1000003 => $call::<1000003>($($argument),*),
+            16777213 => $call::<16777213>($($argument),*),
             _ => unreachable!(),
         }
     };

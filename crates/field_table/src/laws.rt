@@ -4,12 +4,13 @@ ghost use Rattle.field_table.specs.declared.table.TheConstants.{CHARACTERISTIC_L
 ghost use Rattle.linear_algebra.specs.Prime.{IsPrime};
 ghost use Rattle.linear_algebra.specs.Residue.{Residue, residue, ◌⊗◌};
 
-/// Each number of the table is a prime below the limit, and 1000003 and 16777213 are primes too.
+/// Each number of the table is a prime below the limit; the two greatest are 1000003, and 16777213, the greatest prime
+/// below 2^24.
 pub fn characteristics_are_primes()
     ensures prime { (p : ℕ) → IsListed p → IsPrime p }
     ensures limit { (p : ℕ) → IsListed p → p < CHARACTERISTIC_LIMIT }
-    ensures prime_1000003 { IsPrime 1000003 }
-    ensures prime_16777213 { IsPrime 16777213 }
+    ensures prime_1000003 { IsListed 1000003 × IsPrime 1000003 }
+    ensures prime_16777213 { IsListed 16777213 × IsPrime 16777213 }
 {}
 
 /// Each residue other than 0 of a listed characteristic has an inverse. No call tests it.
