@@ -32,10 +32,10 @@ ghost use Rattle.p1_normal.specs.Actions.{
   matrix_star,
 };
 
-/// The limits: levels go up to 500, determinants to 200, and entries of matrices to magnitude 1000.
+/// The limits: levels go up to 1000, determinants to 400, and entries of matrices to magnitude 1000.
 pub fn limits()
-    ensures level { MAX_LEVEL ≡ 500 }
-    ensures determinant { MAX_DET ≡ 200 }
+    ensures level { MAX_LEVEL ≡ 1000 }
+    ensures determinant { MAX_DET ≡ 400 }
     ensures entry { MAX_ENTRY ≡ 1000 }
 {}
 

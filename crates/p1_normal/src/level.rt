@@ -10,7 +10,7 @@ use std::marker::Model;
 use thiserror::Error;
 
 /// The greatest level.
-pub const MAX_LEVEL: u32 = 500;
+pub const MAX_LEVEL: u32 = 1000;
 
 /// Why a level can't be opened.
 #[derive(Clone, Copy, Debug, PartialEq, Eq, Error)]

@@ -5,7 +5,7 @@ ghost use Rattle.p1_normal.specs.Actions.{matrix};
 pub const MAX_ENTRY: u32 = 1000;
 
 /// The greatest determinant of the matrices of a Hecke operator.
-pub const MAX_DET: u32 = 200;
+pub const MAX_DET: u32 = 400;
 
 /// The integer matrix [[a, b], [c, d]], which acts on rows from the right.
 #[derive(Clone, Copy, Debug, PartialEq, Eq)]
