@@ -5,10 +5,8 @@ use Rattle.std.specs.List.{flat_map, Contains}
 use Rattle.std.proofs.Math.Nat.{mul-le-mul, pow-succ', pow-zero}
 use Rattle.std.proofs.lemmas.Int.{ints}
 use Rattle.std.proofs.lemmas.Bool.{cond_both, false≢true}
-use Rattle.std.proofs.lemmas.List.{length-append}
 use Rattle.std.proofs.lemmas.List.Elements.{All-nil, All-append, All-map, All-filter, All-contains, filter_passes, Contains-append_left, Contains-append_right}
-use Rattle.std.proofs.lemmas.List.FromFn.{length-range_with_len, length-map-range_with_len, get_or-range_with_len}
-use Rattle.std.proofs.lemmas.List.Sums.{length-filter, count_by-le-length}
+use Rattle.std.proofs.lemmas.List.FromFn.{length-range_with_len, get_or-range_with_len}
 use Rattle.p1_normal.specs.declared.matrix.Matrix.{Matrix}
 use Rattle.p1_normal.specs.declared.matrix.TheConstants.{MAX_DET}
 use Rattle.p1_normal.specs.Actions.{matrix, IsSmall}
@@ -16,6 +14,7 @@ use Rattle.heilbronn_sets.specs.Merel.{entries, quadruples, is_merel, merel_matr
 use Rattle.heilbronn_sets.specs.Sets.{IsMatrixSet}
 use Rattle.heilbronn_sets.proofs.Entries.{AreEntries, entries_sum}
 use Rattle.heilbronn_sets.proofs.Rows.{passes, passes_entries, merel_from}
+use Rattle.heilbronn_sets.proofs.Counts.{merel_matrices-count}
 
 -- ---- elements of filtered, mapped and joined lists
 -- an element that passes is an element of the filtered list
@@ -50,11 +49,6 @@ All-flat_map : {X Y : Type 0} (P : Y → Type 0) (f : X → List Y) → ((x : X)
 All-flat_map P f h [] = All-nil P
 All-flat_map P f h (x ∷ xs) = All-append P (f x) (flat_map f xs) (h x) (All-flat_map P f h xs)
 
--- the length of joined pieces of one length
-length-flat_map_same : {X Y : Type 0} (f : X → List Y) (k : ℕ) → ((x : X) → length (f x) ≡ k) → (xs : List X) → length (flat_map f xs) ≡ length xs * k
-length-flat_map_same f k h [] = omega arith
-length-flat_map_same f k h (x ∷ xs) = omega (arith, length-append (f x) (flat_map f xs), h x, length-flat_map_same f k h xs)
-
 -- ---- the quadruples
 -- b and c are not negative
 IsNatural : Matrix → Type 0
@@ -82,27 +76,6 @@ Contains-quadruples n a b c d h k l m =
     (Contains-flat_map (λ c. map (λ d. matrix (pos a) (pos b) (pos c) (pos d)) (entries n)) (entries n) c (matrix (pos a) (pos b) (pos c) (pos d))
     (Contains-entries n c l)
     (Contains-map (λ d. matrix (pos a) (pos b) (pos c) (pos d)) (entries n) d (Contains-entries n d m))))
-
--- there are (n + 1)^4 quadruples
-length-quadruples : (n : ℕ) → length (quadruples n) ≡ (n + 1) * ((n + 1) * ((n + 1) * (n + 1)))
-unfolding quadruples
-length-quadruples n =
-    length-flat_map_same (λ a. flat_map (λ b. flat_map (λ c. map (λ d. matrix (pos a) (pos b) (pos c) (pos d)) (entries n)) (entries n)) (entries n))
-    ((n + 1) * ((n + 1) * (n + 1))) three (entries n)
-    ∙ ap (λ k. k * ((n + 1) * ((n + 1) * (n + 1)))) (length-range_with_len 0 (n + 1))
-  where
-    one : (a b c : ℕ) → length (map (λ d. matrix (pos a) (pos b) (pos c) (pos d)) (entries n)) ≡ n + 1
-    one a b c = length-map-range_with_len (λ d. matrix (pos a) (pos b) (pos c) (pos d)) 0 (n + 1)
-
-    two : (a b : ℕ) → length (flat_map (λ c. map (λ d. matrix (pos a) (pos b) (pos c) (pos d)) (entries n)) (entries n)) ≡ (n + 1) * (n + 1)
-    two a b = length-flat_map_same (λ c. map (λ d. matrix (pos a) (pos b) (pos c) (pos d)) (entries n)) (n + 1) (one a b) (entries n)
-        ∙ ap (λ k. k * (n + 1)) (length-range_with_len 0 (n + 1))
-
-    three : (a : ℕ) → length (flat_map (λ b. flat_map (λ c. map (λ d. matrix (pos a) (pos b) (pos c) (pos d)) (entries n)) (entries n)) (entries n))
-        ≡ (n + 1) * ((n + 1) * (n + 1))
-    three a = length-flat_map_same (λ b. flat_map (λ c. map (λ d. matrix (pos a) (pos b) (pos c) (pos d)) (entries n)) (entries n))
-        ((n + 1) * (n + 1)) (two a) (entries n)
-        ∙ ap (λ k. k * ((n + 1) * (n + 1))) (length-range_with_len 0 (n + 1))
 
 -- ---- members
 -- the natural entries of a member
@@ -175,17 +148,13 @@ IsMerel-trace n m h =
     let bound : (pos k.a +ℤ pos k.d) ≤ℤ pos (n + 1) = omega (arith, ints, sum) in
     subst (λ w. (w.a +ℤ w.d) ≤ℤ pos (n + 1)) (sym k.is) bound
 
--- the fourth power
-fourth : (m : ℕ) → m * (m * (m * m)) ≡ m ^ 4
-fourth m = sym (pow-succ' m 3 ∙ ap (λ k. m * k) (pow-succ' m 2 ∙ ap (λ k. m * k)
-    (pow-succ' m 1 ∙ ap (λ k. m * k) (pow-succ' m 0 ∙ ap (λ k. m * k) (pow-zero m) ∙ omega arith))))
+-- the third power
+third : (m : ℕ) → m * (m * m) ≡ m ^ 3
+third m = sym (pow-succ' m 2 ∙ ap (λ k. m * k) (pow-succ' m 1 ∙ ap (λ k. m * k) (pow-succ' m 0 ∙ ap (λ k. m * k) (pow-zero m) ∙ omega arith)))
 
--- there are at most (n + 1)^4 of them
-pub length-merel_matrices : (n : ℕ) → length (merel_matrices n) ≤ (n + 1) ^ 4
-unfolding merel_matrices
-length-merel_matrices n =
-    subst (λ k. length (filter (is_merel n) (quadruples n)) ≤ k) (length-quadruples n ∙ fourth (n + 1))
-    (subst (λ k. k ≤ length (quadruples n)) (sym (length-filter (is_merel n) (quadruples n))) (count_by-le-length (is_merel n) (quadruples n)))
+-- there are at most (n + 1)^3 of them, since the first three entries determine the fourth
+pub length-merel_matrices : (n : ℕ) → length (merel_matrices n) ≤ (n + 1) ^ 3
+length-merel_matrices n = subst (λ k. length (merel_matrices n) ≤ k) (third (n + 1)) (merel_matrices-count n)
 
 -- a member is small
 pub IsSmall-member : (n : ℕ) (m : Matrix) → n ≤ MAX_DET → IsMerel n m → IsSmall m
@@ -199,15 +168,9 @@ IsSmall-member n m few h =
 -- within the limit they can be numbered
 merel_matrices_few : (n : ℕ) → n ≤ MAX_DET → length (merel_matrices n) < 2 ^ 32 - 1
 merel_matrices_few n small =
-    let small_next : n + 1 ≤ 201 = omega arith in
-    let square : (n + 1) * (n + 1) ≤ 201 * 201 = mul-le-mul small_next small_next in
-    let bound : ((n + 1) * (n + 1)) * ((n + 1) * (n + 1)) ≤ (201 * 201) * (201 * 201) = mul-le-mul square square in
-    let many : length (merel_matrices n) ≤ (n + 1) ^ 4 = length-merel_matrices n in
-    let same : (n + 1) * ((n + 1) * ((n + 1) * (n + 1))) ≡ (n + 1) ^ 4 = fourth (n + 1) in
-    below (length (merel_matrices n)) ((n + 1) ^ 4) (n + 1) many same bound
-  where
-    below : (k f b : ℕ) → k ≤ f → b * (b * (b * b)) ≡ f → (b * b) * (b * b) ≤ (201 * 201) * (201 * 201) → k < 2 ^ 32 - 1
-    below k f b l e m = omega (arith, l, e, m)
+    let next : n + 1 ≤ MAX_DET + 1 = omega arith in
+    let bound : (n + 1) * ((n + 1) * (n + 1)) ≤ (MAX_DET + 1) * ((MAX_DET + 1) * (MAX_DET + 1)) = mul-le-mul next (mul-le-mul next next) in
+    omega (arith, merel_matrices-count n, bound)
 
 -- Merel's set is a set of matrices of determinant n
 pub IsMatrixSet-merel_matrices : (n : ℕ) (ms : List Matrix) → 0 < n → n ≤ MAX_DET → ms ≡ merel_matrices n

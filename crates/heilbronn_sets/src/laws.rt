@@ -6,11 +6,11 @@ ghost use Rattle.heilbronn_sets.specs.Merel.{IsMerel, merel_matrices};
 
 /// Merel's set of determinant n, of 1 or more, holds exactly the integer matrices with a > b >= 0,
 /// d > c >= 0 and ad - bc = n: the bound n on the entries leaves none out. Their trace is at most n + 1,
-/// and there are at most (n + 1)^4 of them.
+/// and there are at most (n + 1)^3 of them, since a, b and c determine d.
 pub fn merel_laws()
     ensures members { (n : ℕ) (m : Matrix) → Contains (merel_matrices n) m ↔ IsMerel n m }
     ensures trace { (n : ℕ) (m : Matrix) → IsMerel n m → (m.a +ℤ m.d) ≤ℤ pos (n + 1) }
-    ensures many { (n : ℕ) → length (merel_matrices n) ≤ (n + 1) ^ 4 }
+    ensures many { (n : ℕ) → length (merel_matrices n) ≤ (n + 1) ^ 3 }
 {}
 
 /// The sets of the determinants 1, 2 and 3.
