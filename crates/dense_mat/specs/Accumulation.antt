@@ -3,7 +3,7 @@
 --                   which comes after each STRETCH of them
 use Rattle.std.specs.Prelude.{◌≤◌, ◌+◌, ◌*◌, ◌%◌, ℕ, List, All}
 use Rattle.field_table.specs.declared.table.TheConstants.{CHARACTERISTIC_LIMIT}
-use Rattle.dense_mat.specs.declared.accumulation.TheConstants.{STRETCH}
+use Rattle.field_table.specs.declared.products.TheConstants.{STRETCH}
 
 abbrev pub HasRoom : ℕ → List ℕ → Type 0
 HasRoom n sums = All (λ x. x ≤ (n % STRETCH + 1) * (CHARACTERISTIC_LIMIT * CHARACTERISTIC_LIMIT)) sums

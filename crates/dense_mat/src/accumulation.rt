@@ -1,16 +1,14 @@
 ghost use Rattle.std.specs.Prelude.{◌≡◌, ◌<◌, ◌≤◌, ◌+◌, ◌*◌, ◌%◌, ℕ, All, IfOk, length, slice_index};
 ghost use Rattle.dense_mat.specs.Accumulation.{HasRoom};
 ghost use Rattle.field_table.specs.Residues.{AreResidues};
+ghost use Rattle.field_table.specs.declared.products.TheConstants.{STRETCH};
 ghost use Rattle.field_table.specs.declared.table.TheConstants.{CHARACTERISTIC_LIMIT};
 ghost use Rattle.linear_algebra.specs.Dense.{dense};
 ghost use Rattle.linear_algebra.specs.Residue.{residue};
 ghost use Rattle.linear_algebra.specs.Vector.{◌⊞◌, ◌⊡◌};
 
-use field_table::{Field, OutOfMemory, Residues};
+use field_table::{Field, OutOfMemory, Residues, STRETCH};
 use std::alloc::Global;
-
-/// So many products of two numbers below the characteristics' limit have a sum below 2^63.
-pub const STRETCH: usize = 1 << 15;
 
 // Adds c times the row, place by place, with no reduction.
 fn add_products(sums: &mut [u64], c: u32, row: &[u32])

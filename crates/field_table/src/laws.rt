@@ -1,5 +1,6 @@
-ghost use Rattle.std.specs.Prelude.{◌≡◌, ◌≢◌, ◌<◌, ℕ};
+ghost use Rattle.std.specs.Prelude.{◌≡◌, ◌≢◌, ◌<◌, ◌≤◌, ◌*◌, ◌^◌, ℕ};
 ghost use Rattle.field_table.specs.Table.{IsListed};
+ghost use Rattle.field_table.specs.declared.products.TheConstants.{STRETCH};
 ghost use Rattle.field_table.specs.declared.table.TheConstants.{CHARACTERISTIC_LIMIT};
 ghost use Rattle.linear_algebra.specs.Prime.{IsPrime};
 ghost use Rattle.linear_algebra.specs.Residue.{Residue, residue, ◌⊗◌};
@@ -17,4 +18,10 @@ pub fn characteristics_are_primes()
 pub fn nonzero_residues_have_inverses()
     ensures law { (p : ℕ) → IsListed p → (a : Residue p) → a ≢ residue p 0
         → (b : Residue p) × (a ⊗ b ≡ residue p 1) }
+{}
+
+/// Sums of 64 bits take so many products of two residues of any characteristic below 2^24 with no reduction, and have room
+/// for as much again.
+pub fn stretches_fit()
+    ensures law { STRETCH * (CHARACTERISTIC_LIMIT * CHARACTERISTIC_LIMIT) ≤ 2 ^ 63 }
 {}

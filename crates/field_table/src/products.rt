@@ -5,7 +5,7 @@ ghost use Rattle.field_table.specs.Residues.{AreResidues};
 
 use crate::table::CHARACTERISTIC_LIMIT;
 
-/// So many products of two numbers below the characteristics' limit have a sum below 2^63.
+/// So many products of two numbers below the characteristics' limit have a sum of at most 2^63.
 pub const STRETCH: usize = 1 << 15;
 
 /// The sum of the products at the places from `start` to before `end`, with no reduction.

@@ -1,6 +1,6 @@
 use Rattle.std.proofs.Common.{arith, ◌+◌, ◌*◌, ◌%◌}
 use Rattle.field_table.specs.declared.table.TheConstants.{CHARACTERISTIC_LIMIT}
-use Rattle.dense_mat.specs.declared.accumulation.TheConstants.{STRETCH}
+use Rattle.field_table.specs.declared.products.TheConstants.{STRETCH}
 use Rattle.dense_mat.proofs.accumulation.add.Goals as goal
 
 pub make_room-requires : goal.make_room-requires
