@@ -14,7 +14,8 @@ listed_at : (place : ℕ) → place < 12 → IsListed (get_or CHARACTERISTICS pl
 listed_at place within =
     let here : nat_eq (get_or CHARACTERISTICS place 0) (get_or CHARACTERISTICS place 0) ≡ true =
     eq-eqb (get_or CHARACTERISTICS place 0) (get_or CHARACTERISTICS place 0) refl in
-    list_any_at (nat_eq (get_or CHARACTERISTICS place 0)) CHARACTERISTICS place 0 within here
+    let listed : place < 14 = omega arith in
+    list_any_at (nat_eq (get_or CHARACTERISTICS place 0)) CHARACTERISTICS place 0 listed here
 
 pub record IsDrawnSpace (space : SpaceLine) : Type 0 where
   pub least : 100 ≤ space.modulus
