@@ -9,7 +9,7 @@ use crate::status::MAX_INPUT;
 pub fn limits()
     ensures input { MAX_INPUT ≡ 1048576 }
     ensures characteristics { CHARACTERISTICS
-        ≡ 2 ∷ 3 ∷ 5 ∷ 7 ∷ 11 ∷ 13 ∷ 17 ∷ 101 ∷ 1009 ∷ 10007 ∷ 32003 ∷ 65521 ∷ [] }
+        ≡ 2 ∷ 3 ∷ 5 ∷ 7 ∷ 11 ∷ 13 ∷ 17 ∷ 101 ∷ 1009 ∷ 10007 ∷ 32003 ∷ 65521 ∷ 1000003 ∷ 16777213 ∷ [] }
 {}
 
 /// The works of all sessions of a script, over one legal list of events and one history, make a legal run of the script,
