@@ -206,7 +206,7 @@ def main():
         name, given = words[1], words[2:]
         if name != "star":
             n = int(name[1:])
-            if not 1 <= n <= 200:
+            if not 1 <= n <= 400:
                 return "err limit n"
             name = "T%d" % n
         f = [int(x) for x in given[0].split(",")] if words[0] in ("poly", "split") else []
@@ -271,7 +271,7 @@ def main():
             return " ".join(["ok cusps", str(len(cusps))] + ["(%d:%d)" % symbols[min(c)] for c in cusps])
         elif words == ["basis"]:
             return " ".join(["ok basis", str(len(free))] + ["(%d:%d)" % symbols[j] for j in free])
-        if n is not None and not 1 <= n <= 200:
+        if n is not None and not 1 <= n <= 400:
             return "err limit n"
         if len(terms) > 64:
             return "err limit terms"

@@ -205,7 +205,7 @@ class Refusals(unittest.TestCase):
             (("part", 0), ["no_part", "1"]),
             (("normal", 0, 0), ["not_symbol", "1"]),
             (("image", 22, "1:0:1"), ["not_coprime", "11"]),
-            (("image", 201, "1:0:1"), ["limit", "n"]),
+            (("image", 401, "1:0:1"), ["limit", "n"]),
             (("frob",), ["grammar", "1"]),
         ):
             with self.assertRaises(Refused) as caught:
@@ -216,7 +216,7 @@ class Refusals(unittest.TestCase):
         for text, number, cause in (
             ("space 11 101\nbasis\n", 2, "NoSession"),
             ("# x\nspace 11 6\n", 2, "Characteristic"),
-            ("space 501 101\n", 1, "Level"),
+            ("space 1001 101\n", 1, "Level"),
         ):
             with self.assertRaises(BadScript) as caught:
                 run(text)

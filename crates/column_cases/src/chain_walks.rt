@@ -63,19 +63,19 @@ fn sets_by_chains(rt: HostRuntime) -> Result<(), Fail> {
     Ok(())
 }
 
-// 0 and 201 are refused, and 200 is not: the divisors of 200 add up to 465.
+// 0 and 401 are refused, and 400 is not: the divisors of 400 add up to 961.
 #[test]
 fn limits(rt: HostRuntime) -> Result<(), Fail> {
-    for n in [0, 201] {
+    for n in [0, 401] {
         assert_eq!(rt; starts(rt.alloc(), n).err(), Some(SetFault::Limit { n }));
         assert_eq!(rt;
             merel_by_chains(rt.alloc(), n).err(),
             Some(SetFault::Limit { n })
         );
-        assert!(rt; matches!(chains(rt.alloc(), n), Err(SetFault::Limit { n: 0 | 201 })));
+        assert!(rt; matches!(chains(rt.alloc(), n), Err(SetFault::Limit { n: 0 | 401 })));
     }
-    assert_eq!(rt; starts(rt.alloc(), 200)?.len(), 465);
-    assert_eq!(rt; chains(rt.alloc(), 200)?.len(), 465);
-    assert_eq!(rt; merel_by_chains(rt.alloc(), 200)?.det(), 200);
+    assert_eq!(rt; starts(rt.alloc(), 400)?.len(), 961);
+    assert_eq!(rt; chains(rt.alloc(), 400)?.len(), 961);
+    assert_eq!(rt; merel_by_chains(rt.alloc(), 400)?.det(), 400);
     Ok(())
 }

@@ -71,7 +71,7 @@ fn beginnings_of_chains(rt: HostRuntime) -> Result<(), Fail> {
 
 #[test]
 fn sets_out_of_range(rt: HostRuntime) -> Result<(), Fail> {
-    for n in [0, 201] {
+    for n in [0, 401] {
         assert_eq!(rt; merel_set(rt.alloc(), n).err(), Some(SetFault::Limit { n }));
     }
     Ok(())
@@ -102,7 +102,7 @@ fn sets_of_lists(rt: HostRuntime) -> Result<(), Fail> {
         (2, (-1001, 0, 0, 2), Some(SetFault::Entry { place: 1 })),
         (2, (1000, 0, 0, 2), Some(SetFault::Determinant { place: 1 })),
         (0, (1, 0, 0, 2), Some(SetFault::Limit { n: 0 })),
-        (201, (1, 0, 0, 201), Some(SetFault::Limit { n: 201 })),
+        (401, (1, 0, 0, 401), Some(SetFault::Limit { n: 401 })),
     ];
     for (det, entries, fault) in cases {
         assert_eq!(rt; fault_of(rt.alloc(), det, true, entries)?, fault);

@@ -163,7 +163,7 @@ fn images_of_other_numbers(rt: HostRuntime) -> Result<(), Fail> {
 fn refusals(rt: HostRuntime) -> Result<(), Fail> {
     let rows = [
         ("image 22 1:0:1", 0, "err not_coprime 11"),
-        ("image 201 1:0:1", 0, "err limit n"),
+        ("image 401 1:0:1", 0, "err limit n"),
         ("image 0 1:0:1", 0, "err limit n"),
         ("image 2 1:11:0", 0, "err not_symbol 1"),
         ("image 22 1:11:0", 0, "err not_symbol 1"),
@@ -216,7 +216,7 @@ fn chains_are_counted(rt: HostRuntime) -> Result<(), Fail> {
         ("chains 4", 0, "ok chains 7 matrices 13"),
         ("chains 3", 0, "ok chains 4 matrices 7"),
         ("chains 0", 0, "err limit n"),
-        ("chains 201", 0, "err limit n"),
+        ("chains 401", 0, "err limit n"),
     ];
     assert!(rt; answers_at_11(rt.alloc(), 0, &rows)?);
     Ok(())

@@ -110,7 +110,7 @@ fn cases() -> [Case; 16] {
             ..plain(SCRIPT, Status::WriteFault, b"transcript")
         },
         bad(b"space 11 6\n", 1, ScriptCause::Characteristic),
-        bad(b"space 501 5\n", 1, ScriptCause::Level),
+        bad(b"space 1001 5\n", 1, ScriptCause::Level),
         bad(b"# x\n", 2, ScriptCause::Header),
         bad(b"space 11 101\nnormal 3 1\n", 2, ScriptCause::NoSession),
     ]

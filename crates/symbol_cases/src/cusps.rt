@@ -96,6 +96,8 @@ fn numbers_of_cusps(rt: HostRuntime) -> Result<(), Fail> {
         (420, 24),
         (499, 2),
         (500, 30),
+        (990, 32),
+        (1000, 40),
     ] {
         assert_eq!(rt; cusp_count(rt.alloc(), n)?, count, "at {n}");
     }

@@ -42,6 +42,19 @@ fn loops_over_lists(rt: HostRuntime) {
     assert_eq!(rt; dot(small, &[], &[]), 0);
 }
 
+// The same loops at the greatest prime below 2^24, where a product of two residues passes 32 bits.
+#[test]
+fn loops_at_the_greatest_characteristic(rt: HostRuntime) {
+    let great = Field::open(16777213).unwrap();
+    assert_eq!(rt; great.mul(16777212, 16777212), 1);
+    let mut sum = [0, 16777212, 1];
+    axpy(great, &mut sum, 16777212, &[16777212, 1, 1]);
+    assert!(rt; sum == [1, 16777211, 0]);
+    scale(great, &mut sum, 16777212);
+    assert!(rt; sum == [16777212, 2, 0]);
+    assert_eq!(rt; dot(great, &[16777212, 16777212, 2], &[16777212, 16777212, 3]), 8);
+}
+
 #[test]
 fn combinations_of_terms(rt: HostRuntime) -> Result<(), OutOfMemory> {
     let field = Field::open(101).unwrap();

@@ -62,6 +62,10 @@ fn levels(rt: HostRuntime) -> Result<(), Fail> {
         (420, 1152),
         (499, 500),
         (500, 900),
+        (501, 672),
+        (990, 2592),
+        (997, 998),
+        (1000, 1800),
     ] {
         assert_eq!(rt; counted(rt.alloc(), n)?, (n, count));
     }
@@ -70,7 +74,7 @@ fn levels(rt: HostRuntime) -> Result<(), Fail> {
 
 #[test]
 fn levels_out_of_range(rt: HostRuntime) -> Result<(), Fail> {
-    for n in [0, 501] {
+    for n in [0, 1001] {
         assert_eq!(rt;
             Level::open(rt.alloc(), n).err(),
             Some(LevelFault::Limit { n })

@@ -24,7 +24,7 @@ fn faults_of_scripts(rt: HostRuntime) {
         fault(&rt, b"space 11 6"),
         Some((1, ScriptCause::Characteristic))
     );
-    assert_eq!(rt; fault(&rt, b"space 501 5"), Some((1, ScriptCause::Level)));
+    assert_eq!(rt; fault(&rt, b"space 1001 5"), Some((1, ScriptCause::Level)));
     assert_eq!(rt; fault(&rt, b""), Some((1, ScriptCause::Header)));
     assert_eq!(rt; fault(&rt, b"# x\n"), Some((2, ScriptCause::Header)));
     assert_eq!(rt;
@@ -97,9 +97,9 @@ fn faults_of_commands(rt: HostRuntime) {
     let number = Some(CommandFault::Limit {
         what: LimitWord::Number,
     });
-    assert_eq!(rt; refusal(&rt, b"image 201 1:0:1"), n);
+    assert_eq!(rt; refusal(&rt, b"image 401 1:0:1"), n);
     assert_eq!(rt; refusal(&rt, b"image 0 1:0:1"), n);
-    assert_eq!(rt; refusal(&rt, b"chains 201"), n);
+    assert_eq!(rt; refusal(&rt, b"chains 401"), n);
     assert_eq!(rt; refusal(&rt, b"reduce 1:1:5000000000"), number);
     assert_eq!(rt;
         refusal(&rt, b"image 2 1:0"),
