@@ -21,7 +21,7 @@ const ANSWERS: &[u8] =
     b"transcript 1\nspace 11 101 symbols 12\nsession 1\n1 @0 ok coords 0 100 1\n2 @0 ok certified 0 100 1 by 4:100 15:1\n3 @0 ok certified 1 0 0 by\n4 @0 ok coords 100 99 100\n5 @0 ok coords 0 0 0\nsession 2\n1 @0 ok basis 3 (0:1) (1:2) (1:3)\n2 @0 ok splitting 0 dims 3 ops\n3 @0 err not_symbol 2\n4 @0 err grammar 3\nhistory 0\ncolumns 0\nend\n";
 
 const IMAGES: &[u8] =
-    b"space 11 101\nsession\nimage 2 1:0:1\nimage 2 1:1:2\nimage 2 1:1:3\nimage 3 1:0:1\nimage 1 1:1:3\nchains 4\nchains 3\nsession\nimage 2\nimage 2 1:0:1\nimage 22 1:0:1\nimage 22 1:11:0\nimage 201 1:0:1\nchains 0\n";
+    b"space 11 101\nsession\nimage 2 1:0:1\nimage 2 1:1:2\nimage 2 1:1:3\nimage 3 1:0:1\nimage 1 1:1:3\nchains 4\nchains 3\nsession\nimage 2\nimage 2 1:0:1\nimage 22 1:0:1\nimage 22 1:11:0\nimage 401 1:0:1\nchains 0\n";
 
 const IMAGE_ANSWERS: &[u8] =
     b"transcript 1\nspace 11 101 symbols 12\nsession 1\n1 @0 ok coords 3 1 0\n2 @0 ok coords 0 99 0\n3 @0 ok coords 0 0 99\n4 @0 ok coords 4 1 0\n5 @0 ok coords 0 0 1\n6 @0 ok chains 7 matrices 13\n7 @0 ok chains 4 matrices 7\nsession 2\n1 @0 ok coords 0 0 0\n2 @0 ok coords 3 1 0\n3 @0 err not_coprime 11\n4 @0 err not_symbol 1\n5 @0 err limit n\n6 @0 err limit n\nhistory 0\ncolumns 5\nend\n";
@@ -63,6 +63,7 @@ const OPERATORS_ANSWERS: &[u8] =
 // A script with the calls of the input and of the output that fail, the room of the output, the status and what is written.
 #[derive(Clone, Copy)]
 struct Case {
+    name: &'static str,
     script: &'static [u8],
     read_fails: &'static [u32],
     write_fails: &'static [u32],
@@ -71,8 +72,14 @@ struct Case {
     written: &'static [u8],
 }
 
-fn plain(script: &'static [u8], status: Status, written: &'static [u8]) -> Case {
+fn plain(
+    name: &'static str,
+    script: &'static [u8],
+    status: Status,
+    written: &'static [u8],
+) -> Case {
     Case {
+        name,
         script,
         read_fails: &[],
         write_fails: &[],
@@ -82,37 +89,52 @@ fn plain(script: &'static [u8], status: Status, written: &'static [u8]) -> Case 
     }
 }
 
-fn bad(script: &'static [u8], line: u32, cause: ScriptCause) -> Case {
-    plain(script, Status::BadScript { line, cause }, b"")
+fn bad(name: &'static str, script: &'static [u8], line: u32, cause: ScriptCause) -> Case {
+    plain(name, script, Status::BadScript { line, cause }, b"")
 }
 
 fn cases() -> [Case; 16] {
     [
-        plain(SCRIPT, Status::Done, TRANSCRIPT),
-        plain(COORDS, Status::Done, ANSWERS),
-        plain(IMAGES, Status::Done, IMAGE_ANSWERS),
-        plain(ZERO_COEFFICIENT, Status::Done, ZERO_ANSWERS),
-        plain(LEVEL_ONE, Status::Done, LEVEL_ONE_ANSWERS),
-        plain(STARS, Status::Done, STARS_ANSWERS),
-        plain(CUSPS, Status::Done, CUSPS_ANSWERS),
-        plain(SPLITS, Status::Done, SPLITS_ANSWERS),
-        plain(OPERATORS, Status::Done, OPERATORS_ANSWERS),
+        plain("points", SCRIPT, Status::Done, TRANSCRIPT),
+        plain("coordinates", COORDS, Status::Done, ANSWERS),
+        plain("images", IMAGES, Status::Done, IMAGE_ANSWERS),
+        plain(
+            "a coefficient of 0",
+            ZERO_COEFFICIENT,
+            Status::Done,
+            ZERO_ANSWERS,
+        ),
+        plain("level 1", LEVEL_ONE, Status::Done, LEVEL_ONE_ANSWERS),
+        plain("stars", STARS, Status::Done, STARS_ANSWERS),
+        plain("cusps", CUSPS, Status::Done, CUSPS_ANSWERS),
+        plain("splits", SPLITS, Status::Done, SPLITS_ANSWERS),
+        plain("operators", OPERATORS, Status::Done, OPERATORS_ANSWERS),
         Case {
             read_fails: &[1],
-            ..plain(SCRIPT, Status::ReadFault, b"")
+            ..plain("a failed read", SCRIPT, Status::ReadFault, b"")
         },
         Case {
             write_fails: &[0],
-            ..plain(SCRIPT, Status::WriteFault, b"")
+            ..plain("a failed write", SCRIPT, Status::WriteFault, b"")
         },
         Case {
             room: 10,
-            ..plain(SCRIPT, Status::WriteFault, b"transcript")
+            ..plain("little room", SCRIPT, Status::WriteFault, b"transcript")
         },
-        bad(b"space 11 6\n", 1, ScriptCause::Characteristic),
-        bad(b"space 1001 5\n", 1, ScriptCause::Level),
-        bad(b"# x\n", 2, ScriptCause::Header),
-        bad(b"space 11 101\nnormal 3 1\n", 2, ScriptCause::NoSession),
+        bad(
+            "no characteristic",
+            b"space 11 6\n",
+            1,
+            ScriptCause::Characteristic,
+        ),
+        bad("no level", b"space 1001 5\n", 1, ScriptCause::Level),
+        bad("no header", b"# x\n", 2, ScriptCause::Header),
+        bad(
+            "no session",
+            b"space 11 101\nnormal 3 1\n",
+            2,
+            ScriptCause::NoSession,
+        ),
     ]
 }
 
@@ -135,7 +157,7 @@ fn runs_as<R: Threads + Wait + Sync>(
 #[test]
 fn each_script_has_its_status_and_text(rt: HostRuntime) -> Result<(), Fail> {
     for case in cases() {
-        assert!(rt; runs_as(&rt, rt.alloc(), "solo", &case)?);
+        assert!(rt; runs_as(&rt, rt.alloc(), "solo", &case)?, "{}", case.name);
     }
     Ok(())
 }
@@ -144,7 +166,7 @@ fn each_script_has_its_status_and_text(rt: HostRuntime) -> Result<(), Fail> {
 #[test]
 fn sessions_at_once_have_the_same_text(rt: HostRuntime) -> Result<(), Fail> {
     for case in cases() {
-        assert!(rt; runs_as(&rt, rt.alloc(), "serve", &case)?);
+        assert!(rt; runs_as(&rt, rt.alloc(), "serve", &case)?, "{}", case.name);
     }
     Ok(())
 }
@@ -171,7 +193,7 @@ fn other_words_read_nothing(rt: HostRuntime) -> Result<(), Fail> {
     assert!(rt; are_refused(&rt, alloc, &[])?);
     assert!(rt; are_refused(&rt, alloc, &["serve", "x"])?);
     for word in ["", "gen", "-1", "Serve"] {
-        assert!(rt; are_refused(&rt, alloc, &[word])?);
+        assert!(rt; are_refused(&rt, alloc, &[word])?, "the word '{word}'");
     }
     Ok(())
 }
@@ -188,7 +210,10 @@ fn other_numbers_read_nothing(rt: HostRuntime) -> Result<(), Fail> {
         "99999999999999999999",
         "18446744073709551616",
     ] {
-        assert!(rt; are_refused(&rt, alloc, &["gen", number])?);
+        assert!(rt;
+            are_refused(&rt, alloc, &["gen", number])?,
+            "the number '{number}'"
+        );
     }
     Ok(())
 }

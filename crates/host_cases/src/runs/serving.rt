@@ -86,6 +86,63 @@ impl Gate for Turns {
     }
 }
 
+/// Holds the second session after its first reply until the first session has its reply, and counts the columns that are
+/// computed.
+#[derive(Drop)]
+struct LateSecond {
+    first_replied: AtomicU64,
+    released: AtomicU64,
+    columns: AtomicU64,
+}
+
+impl Gate for LateSecond {
+    fn pass<R: Wait>(&self, _rt: &R, point: GatePoint) {
+        match point {
+            GatePoint::BeforeColumn { .. } => {
+                self.columns.fetch_add(1, Ordering::SeqCst);
+            }
+            GatePoint::AfterReply { session: 1, .. } => {
+                self.first_replied.store(1, Ordering::SeqCst);
+            }
+            GatePoint::AfterReply {
+                session: 2,
+                command: 1,
+            } => hold(&self.first_replied, &self.released),
+            _ => {}
+        }
+    }
+}
+
+/// Holds the commit of the first session until the second has its first reply, and the second after it until the first
+/// session has its own.
+#[derive(Drop)]
+struct Between {
+    first_replied: AtomicU64,
+    second_replied: AtomicU64,
+    released: AtomicU64,
+}
+
+impl Gate for Between {
+    fn pass<R: Wait>(&self, _rt: &R, point: GatePoint) {
+        match point {
+            GatePoint::BeforeCommit { session: 1, .. } => {
+                hold(&self.second_replied, &self.released)
+            }
+            GatePoint::AfterReply { session: 1, .. } => {
+                self.first_replied.store(1, Ordering::SeqCst);
+            }
+            GatePoint::AfterReply {
+                session: 2,
+                command: 1,
+            } => {
+                self.second_replied.store(1, Ordering::SeqCst);
+                hold(&self.first_replied, &self.released);
+            }
+            _ => {}
+        }
+    }
+}
+
 // The text of the transcript that the sessions of a script make, run at once under the gate.
 fn text_of<R: Threads + Wait + Sync, G: Gate>(
     rt: &R,
@@ -170,6 +227,51 @@ fn a_stale_split_is_tried_again(rt: HostRuntime) -> Result<(), Fail> {
             == b"transcript 1\nspace 11 101 symbols 12\nsession 1\n1 @0 ok version 1 dims 1 2\nsession 2\n1 @1 ok version 2 dims 1 2\nhistory 2\n1 s1 c1 T2 98,1\n2 s2 c1 T3 97,1\ncolumns 24\nend\n".as_slice()
     );
     assert_eq!(rt; turns.released.load(Ordering::SeqCst), 3);
+    Ok(())
+}
+
+// A column that another session has published is not computed again, and a point after a reply tells its own session.
+#[test]
+fn a_published_column_is_not_computed_again(rt: HostRuntime) -> Result<(), Fail> {
+    let gate = LateSecond {
+        first_replied: AtomicU64::new(0),
+        released: AtomicU64::new(0),
+        columns: AtomicU64::new(0),
+    };
+    let text = text_of(
+        &rt,
+        rt.alloc(),
+        b"space 11 101\nsession\nimage 2 1:0:1\nsession\nnormal 0 1\nimage 2 1:0:1\n",
+        &gate,
+    )?;
+    assert!(rt;
+        text.bytes()
+            == b"transcript 1\nspace 11 101 symbols 12\nsession 1\n1 @0 ok coords 3 1 0\nsession 2\n1 @0 ok point (0:1)\n2 @0 ok coords 3 1 0\nhistory 0\ncolumns 1\nend\n".as_slice()
+    );
+    assert_eq!(rt; gate.released.load(Ordering::SeqCst), 1);
+    assert_eq!(rt; gate.columns.load(Ordering::SeqCst), 1);
+    Ok(())
+}
+
+// A session learns before each of its commands: between two of them another session's split comes in.
+#[test]
+fn a_session_learns_at_each_command(rt: HostRuntime) -> Result<(), Fail> {
+    let gate = Between {
+        first_replied: AtomicU64::new(0),
+        second_replied: AtomicU64::new(0),
+        released: AtomicU64::new(0),
+    };
+    let text = text_of(
+        &rt,
+        rt.alloc(),
+        b"space 11 101\nsession\nsplit T2 -3,1\nsession\nshow\nshow\n",
+        &gate,
+    )?;
+    assert!(rt;
+        text.bytes()
+            == b"transcript 1\nspace 11 101 symbols 12\nsession 1\n1 @0 ok version 1 dims 1 2\nsession 2\n1 @0 ok splitting 0 dims 3 ops\n2 @1 ok splitting 1 dims 1 2 ops T2\nhistory 1\n1 s1 c1 T2 98,1\ncolumns 12\nend\n".as_slice()
+    );
+    assert_eq!(rt; gate.released.load(Ordering::SeqCst), 2);
     Ok(())
 }
 
