@@ -39,9 +39,13 @@ fn chains_of_three(rt: HostRuntime) -> Result<(), Fail> {
     let found = chains(rt.alloc(), 3)?;
     assert_eq!(rt; found.len(), expected.len());
     for (chain, list) in found.iter().zip(expected.iter()) {
-        assert_eq!(rt; chain.as_slice().len(), list.len());
+        assert_eq!(rt; chain.as_slice().len(), list.len(), "the chain {list:?}");
         for (m, (a, b, c, d)) in chain.as_slice().iter().zip(list.iter()) {
-            assert_eq!(rt; (m.a, m.b, m.c, m.d), (*a, *b, *c, *d));
+            assert_eq!(rt;
+                (m.a, m.b, m.c, m.d),
+                (*a, *b, *c, *d),
+                "in the chain {list:?}"
+            );
         }
     }
     Ok(())
@@ -53,12 +57,24 @@ fn sets_by_chains(rt: HostRuntime) -> Result<(), Fail> {
     for n in 1..13u32 {
         let set = merel_by_chains(rt.alloc(), n)?;
         let plain = merel_set(rt.alloc(), n)?;
-        assert_eq!(rt; (set.det(), set.list().len()), (n, plain.list().len()));
+        assert_eq!(rt;
+            (set.det(), set.list().len()),
+            (n, plain.list().len()),
+            "of {n}"
+        );
         for (m, k) in set.list().iter().zip(plain.list().iter()) {
-            assert_eq!(rt; *m, *k);
+            assert_eq!(rt; *m, *k, "of {n}");
         }
-        assert_eq!(rt; starts(rt.alloc(), n)?.len(), divisor_sum(n as usize));
-        assert_eq!(rt; chains(rt.alloc(), n)?.len(), divisor_sum(n as usize));
+        assert_eq!(rt;
+            starts(rt.alloc(), n)?.len(),
+            divisor_sum(n as usize),
+            "of {n}"
+        );
+        assert_eq!(rt;
+            chains(rt.alloc(), n)?.len(),
+            divisor_sum(n as usize),
+            "of {n}"
+        );
     }
     Ok(())
 }
@@ -67,12 +83,20 @@ fn sets_by_chains(rt: HostRuntime) -> Result<(), Fail> {
 #[test]
 fn limits(rt: HostRuntime) -> Result<(), Fail> {
     for n in [0, 401] {
-        assert_eq!(rt; starts(rt.alloc(), n).err(), Some(SetFault::Limit { n }));
+        assert_eq!(rt;
+            starts(rt.alloc(), n).err(),
+            Some(SetFault::Limit { n }),
+            "of {n}"
+        );
         assert_eq!(rt;
             merel_by_chains(rt.alloc(), n).err(),
-            Some(SetFault::Limit { n })
+            Some(SetFault::Limit { n }),
+            "of {n}"
         );
-        assert!(rt; matches!(chains(rt.alloc(), n), Err(SetFault::Limit { n: 0 | 401 })));
+        assert!(rt;
+            matches!(chains(rt.alloc(), n), Err(SetFault::Limit { n: 0 | 401 })),
+            "of {n}"
+        );
     }
     assert_eq!(rt; starts(rt.alloc(), 400)?.len(), 961);
     assert_eq!(rt; chains(rt.alloc(), 400)?.len(), 961);

@@ -72,7 +72,11 @@ fn beginnings_of_chains(rt: HostRuntime) -> Result<(), Fail> {
 #[test]
 fn sets_out_of_range(rt: HostRuntime) -> Result<(), Fail> {
     for n in [0, 401] {
-        assert_eq!(rt; merel_set(rt.alloc(), n).err(), Some(SetFault::Limit { n }));
+        assert_eq!(rt;
+            merel_set(rt.alloc(), n).err(),
+            Some(SetFault::Limit { n }),
+            "of {n}"
+        );
     }
     Ok(())
 }
@@ -105,7 +109,11 @@ fn sets_of_lists(rt: HostRuntime) -> Result<(), Fail> {
         (401, (1, 0, 0, 401), Some(SetFault::Limit { n: 401 })),
     ];
     for (det, entries, fault) in cases {
-        assert_eq!(rt; fault_of(rt.alloc(), det, true, entries)?, fault);
+        assert_eq!(rt;
+            fault_of(rt.alloc(), det, true, entries)?,
+            fault,
+            "of {entries:?} and {det}"
+        );
     }
     assert_eq!(rt;
         fault_of(rt.alloc(), 2, false, (1001, 0, 0, 2))?,

@@ -52,7 +52,10 @@ fn loops_at_the_greatest_characteristic(rt: HostRuntime) {
     assert!(rt; sum == [1, 16777211, 0]);
     scale(great, &mut sum, 16777212);
     assert!(rt; sum == [16777212, 2, 0]);
-    assert_eq!(rt; dot(great, &[16777212, 16777212, 2], &[16777212, 16777212, 3]), 8);
+    assert_eq!(rt;
+        dot(great, &[16777212, 16777212, 2], &[16777212, 16777212, 3]),
+        8
+    );
 }
 
 #[test]

@@ -77,7 +77,8 @@ fn levels_out_of_range(rt: HostRuntime) -> Result<(), Fail> {
     for n in [0, 1001] {
         assert_eq!(rt;
             Level::open(rt.alloc(), n).err(),
-            Some(LevelFault::Limit { n })
+            Some(LevelFault::Limit { n }),
+            "level {n}"
         );
     }
     Ok(())
@@ -90,8 +91,16 @@ fn all_symbols_of_420(rt: HostRuntime) -> Result<(), Fail> {
     for k in 0..level.count() {
         let p = level.symbol(k);
         assert!(rt; (last.u, last.v) < (p.u, p.v), "{k} is not after the last");
-        assert_eq!(rt; level.index(i64::from(p.u), i64::from(p.v)), Ok(k));
-        assert_eq!(rt; level.normal(-i64::from(p.u), -i64::from(p.v)), Ok(p));
+        assert_eq!(rt;
+            level.index(i64::from(p.u), i64::from(p.v)),
+            Ok(k),
+            "of {k}"
+        );
+        assert_eq!(rt;
+            level.normal(-i64::from(p.u), -i64::from(p.v)),
+            Ok(p),
+            "of {k}"
+        );
         last = p;
     }
     Ok(())
@@ -101,7 +110,11 @@ fn all_symbols_of_420(rt: HostRuntime) -> Result<(), Fail> {
 fn points_of_11(rt: HostRuntime) -> Result<(), Fail> {
     let level = Level::open(rt.alloc(), 11)?;
     for (u, v, p) in [(22, 7, (0, 1)), (3, 1, (1, 4)), (-1, 2, (1, 9))] {
-        assert_eq!(rt; level.normal(u, v), Ok(Point { u: p.0, v: p.1 }));
+        assert_eq!(rt;
+            level.normal(u, v),
+            Ok(Point { u: p.0, v: p.1 }),
+            "of {u} and {v}"
+        );
     }
     assert_eq!(rt; level.normal(0, 0), Err(NotASymbol { g: 11 }));
     assert_eq!(rt; level.index(1, 3), Ok(4));

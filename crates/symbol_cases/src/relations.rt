@@ -92,7 +92,7 @@ fn sum_of_a_trace(rt: HostRuntime) -> Result<(), Fail> {
     let field = Field::open(101)?;
     let trace = Combo::from_terms(rt.alloc(), field, &[(4, -1), (15, 1)])?;
     for (symbol, value) in [(0, 0), (3, 1), (4, 100), (5, 1), (8, 0)] {
-        assert!(rt; symbol < level.count());
+        assert!(rt; symbol < level.count(), "at {symbol}");
         assert_eq!(rt;
             combination_at(&level, field, &trace, symbol),
             value,

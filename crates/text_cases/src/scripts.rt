@@ -47,9 +47,9 @@ fn a_script(rt: HostRuntime) {
             assert_eq!(rt; script.space().modulus, 11);
             assert_eq!(rt; script.sessions().len(), 1);
             for session in script.sessions() {
-                assert_eq!(rt; session.commands().len(), 1);
+                assert_eq!(rt; session.commands().len(), 1, "in the one session");
                 for line in session.commands() {
-                    assert_eq!(rt; line.line, 5);
+                    assert_eq!(rt; line.line, 5, "the one command");
                     let command = parse_command(rt.alloc(), line);
                     assert!(rt; matches!(&command, Ok(Command::Normal { u: 3, v: 1 })));
                 }

@@ -213,7 +213,11 @@ fn some_of_eight_take_turns(rt: HostRuntime) -> Result<(), Fail> {
     let expected = [(7, 0), (2, 1), (7, 2), (4, 3)];
     assert_eq!(rt; list.len(), expected.len());
     for (stamp, (maker, number)) in list.iter().zip(expected.iter()) {
-        assert_eq!(rt; (stamp.maker, stamp.number), (*maker, *number));
+        assert_eq!(rt;
+            (stamp.maker, stamp.number),
+            (*maker, *number),
+            "the stamp {number} of {maker}"
+        );
     }
     Ok(())
 }

@@ -219,7 +219,10 @@ fn schedules_of_two_sessions(rt: HostRuntime) -> Result<(), Fail> {
     };
     let mut count = 0u32;
     for line in SCHEDULES.split(|it| *it == b'\n') {
-        assert!(rt; answers(rt.alloc(), &space, &commit, line)?);
+        assert!(rt;
+            answers(rt.alloc(), &space, &commit, line)?,
+            "schedule {count}"
+        );
         count = count.saturating_add(1);
     }
     assert_eq!(rt; count, 20);
