@@ -9,6 +9,7 @@ mod laws;
 mod level;
 mod matrix;
 mod point;
+mod sharing;
 mod tables;
 
 pub use divisor::gcd;
