@@ -1,4 +1,5 @@
 pub mod Pieces
+mod Rising
 pub mod Entries
 pub mod Rows
 pub mod Counts

@@ -45,7 +45,7 @@ Contains-entries : (n k : ℕ) → k ≤ n → Contains (entries n) k
 Contains-entries n k l = (k, omega (arith, length-range_with_len 0 (n + 1)), get_or-range_with_len 0 (n + 1) k k (omega arith) ∙ omega arith)
 
 -- what holds of each piece holds of the joined pieces
-All-flat_map : {X Y : Type 0} (P : Y → Type 0) (f : X → List Y) → ((x : X) → All P (f x)) → (xs : List X) → All P (flat_map f xs)
+pub All-flat_map : {X Y : Type 0} (P : Y → Type 0) (f : X → List Y) → ((x : X) → All P (f x)) → (xs : List X) → All P (flat_map f xs)
 All-flat_map P f h [] = All-nil P
 All-flat_map P f h (x ∷ xs) = All-append P (f x) (flat_map f xs) (h x) (All-flat_map P f h xs)
 

@@ -1,2 +1,3 @@
 pub mod Merel
+pub mod Order
 pub mod Sets

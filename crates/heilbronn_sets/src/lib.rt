@@ -5,7 +5,8 @@
 mod laws;
 mod matrix_set;
 mod merel;
+mod sharing;
 
-pub use laws::{merel_laws, small_sets};
+pub use laws::{merel_laws, merel_order, small_sets};
 pub use matrix_set::{MatrixSet, SetFault};
 pub use merel::merel_set;
