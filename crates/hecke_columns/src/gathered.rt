@@ -1,8 +1,9 @@
-ghost use Rattle.std.specs.Prelude.{◌≡◌, ◌<◌, ℕ, All, IfOk, IsOk, IsSome, OnErr, OnOk, Some, length, map, nat_eq, true};
+ghost use Rattle.std.specs.Prelude.{◌≡◌, ◌<◌, ℕ, All, IfOk, IsOk, IsSome, OnErr, OnOk, Some, length, map, nat_eq, pos, true};
 ghost use Rattle.std.specs.Arc.{arc_value};
 ghost use Rattle.std.specs.Set.{is_member};
 ghost use Rattle.field_table.specs.Residues.{AreResidues};
 ghost use Rattle.heilbronn_sets.specs.Merel.{merel_matrices};
+ghost use Rattle.p1_normal.specs.Actions.{determinant};
 ghost use Rattle.quotient_coords.specs.Quotient.{Ground, dimension};
 ghost use Rattle.hecke_columns.specs.Hecke.{AddsColumn};
 ghost use Rattle.hecke_columns.specs.Gathering.{FindsSymbols, IsGathered, IsGatheredAt, merel, number_at, symbol_of};
@@ -149,13 +150,27 @@ impl ColumnSource for GatheredColumns {
         self.n
     }
 
+    /// Takes no memory, so it is never refused.
     fn add_column(
         &mut self,
         _alloc: Global,
         k: u32,
         coefficient: u32,
         into: &mut [u32],
-    ) -> Result<(), OutOfMemory> {
+    ) -> Result<(), OutOfMemory>
+        requires given { is_member nat_eq self.old.given k ≡ true }
+        requires coefficient { coefficient < self.old.ground.characteristic }
+        requires count { length into.old
+            ≡ dimension self.old.ground.level self.old.ground.characteristic }
+        requires residues { AreResidues self.old.ground.characteristic into.old }
+        ensures succeeds { IsOk result }
+        ensures added { OnOk result (AddsColumn self.old.ground (merel_matrices self.old.n)
+            k coefficient into.old into.new) }
+        ensures refused { OnErr result (into.new ≡ into.old) }
+        ensures setting { self.new.ground ≡ self.old.ground }
+        ensures matrices { merel self.new.n ≡ merel self.old.n }
+        ensures can_give { is_member nat_eq self.new.given ≡ is_member nat_eq self.old.given }
+    {
         self.add(k, coefficient, into);
         Ok(())
     }
