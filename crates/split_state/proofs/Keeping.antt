@@ -53,7 +53,7 @@ EndsBefore-polynomial d (c ∷ f) a v columns h = EndsBefore-plus d (c ⊡ v) (p
     (EndsBefore-polynomial d f a (apply a v) columns (EndsBefore-combination d v a columns))
 
 -- the matrix of f(A) has columns of length d
-value_ends : {p : ℕ} (f : List (Residue p)) (a : List (Vector p)) (d : ℕ) → Each (EndsBefore d) a → Each (EndsBefore d) (value_matrix f a d)
+pub value_ends : {p : ℕ} (f : List (Residue p)) (a : List (Vector p)) (d : ℕ) → Each (EndsBefore d) a → Each (EndsBefore d) (value_matrix f a d)
 value_ends {p} f a d columns = Each-rows (EndsBefore d) (value_matrix f a d) (λ j l.
     let w : j < d = omega (arith, length-value f a d) in
     subst (EndsBefore d) (sym (row-value f a d j w)) (EndsBefore-polynomial d f a (unit j) columns

@@ -9,3 +9,5 @@ pub mod Unique
 pub mod FirstDifferences
 pub mod Versions
 pub mod VersionSplittings
+pub mod SpanBases
+pub mod NextSteps

@@ -31,7 +31,7 @@ pub agreeing_centralises : (s : Decomposition) (a : List (List ℕ)) → IsSplit
 agreeing_centralises s a h sized agree = agree_centralises s.characteristic s.dim a sized s.matrices h.sized agree.agree
 
 -- the matrix of an operator that commutes with each listed one does
-listed_commute : (g : Ground) (ops : List OpName) (s : Decomposition) → s.characteristic ≡ g.characteristic → AreListed g ops s.names s.matrices
+pub listed_commute : (g : Ground) (ops : List OpName) (s : Decomposition) → s.characteristic ≡ g.characteristic → AreListed g ops s.names s.matrices
     → (op : OpName) (m : List (List ℕ)) → IsOperatorMatrix g op m → ((other : OpName) → Contains ops other → HaveCommutingMatrices g op other)
     → Centralises s.characteristic s.matrices (dense_rows s.characteristic m)
 listed_commute g ops s same h op m is commute = each_from_places (λ o. Commute (dense_rows s.characteristic m) (dense_rows s.characteristic o))

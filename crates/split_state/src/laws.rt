@@ -1,4 +1,4 @@
-ghost use Rattle.std.specs.Prelude.{◌≡◌, ◌↔◌, ◌++◌, ℕ, List, [], ◌∷◌};
+ghost use Rattle.std.specs.Prelude.{◌≡◌, ◌↔◌, ◌++◌, ℕ, List, [], ◌∷◌, Contains};
 ghost use Rattle.linear_algebra.specs.Dense.{dense_rows};
 ghost use Rattle.field_table.specs.Table.{IsListed};
 ghost use Rattle.op_polynomials.specs.declared.entry.SplitEntry.{SplitEntry};
@@ -8,7 +8,7 @@ ghost use Rattle.split_state.specs.Decomposition.{Decomposition, IsSplitting, Is
 ghost use Rattle.split_state.specs.Difference.{AgreesWithListed, IsFirstDifference};
 ghost use Rattle.split_state.specs.Refinement.{Refines};
 ghost use Rattle.split_state.specs.Step.{IsStep, IsWhole};
-ghost use Rattle.split_state.specs.Versions.{IsEntryStep, IsOperatorMatrix, IsVersion, ListsOperators, OperatorsCommute};
+ghost use Rattle.split_state.specs.Versions.{IsEntryStep, IsOperatorMatrix, IsVersion, ListsOperators, OperatorsCommute, operators};
 
 /// A step by an operator that commutes with every listed one, and is the listed one where its name
 /// is listed, makes a splitting of a splitting, in which it is the listed one; and every step
@@ -29,6 +29,15 @@ pub fn steps_are_unique()
     ensures law { (s : Decomposition) (op : OpName) (m : List (List ℕ)) (f : List ℕ)
         (r t : Decomposition) → IsListed s.characteristic → IsStep s op m f r →
         IsStep s op m f t → r ≡ t }
+{}
+
+/// By a matrix that commutes with every listed one, and every polynomial in it, there is a next
+/// splitting.
+pub fn steps_exist()
+    ensures law { (s : Decomposition) (op : OpName) (m : List (List ℕ)) (f : List ℕ) →
+        IsSplitting s → IsSized s.characteristic s.dim m →
+        Centralises s.characteristic s.matrices (dense_rows s.characteristic m) →
+        (r : Decomposition) × IsStep s op m f r }
 {}
 
 /// A matrix has one first difference from the listed operators of a splitting: one operator, row,
@@ -52,6 +61,24 @@ pub fn versions_are_unique()
         IsListed g.characteristic → IsVersion g entries s → IsVersion g entries t → s ≡ t }
     ensures matrix { (g : Ground) (op : OpName) (m o : List (List ℕ)) →
         IsListed g.characteristic → IsOperatorMatrix g op m → IsOperatorMatrix g op o → m ≡ o }
+{}
+
+/// The list of no entry has a version. A version that is a splitting has a next one by each entry
+/// whose operator has a matrix that commutes with the listed ones. So each list of entries has a
+/// version whose operators have matrices, where these commute.
+pub fn versions_exist()
+    ensures none { (g : Ground) → IsListed g.characteristic →
+        (s : Decomposition) × IsVersion g [] s }
+    ensures more { (g : Ground) (entries : List SplitEntry) (e : SplitEntry) (s : Decomposition)
+        (m : List (List ℕ)) → IsVersion g entries s → IsSplitting s →
+        IsOperatorMatrix g e.op m →
+        Centralises s.characteristic s.matrices (dense_rows s.characteristic m) →
+        (r : Decomposition) × IsVersion g (entries ++ e ∷ []) r }
+    ensures law { (g : Ground) (entries : List SplitEntry) → IsListed g.characteristic →
+        OperatorsCommute g entries →
+        ((op : OpName) → Contains (operators entries) op →
+        (m : List (List ℕ)) × IsOperatorMatrix g op m) →
+        (s : Decomposition) × IsVersion g entries s }
 {}
 
 /// Without an entry the version is the whole space, and with one entry more at the end it is one

@@ -7,11 +7,13 @@ mod difference;
 mod fault;
 mod laws;
 mod refining;
+mod sharing;
 mod splitting;
 
 pub use fault::RefineFault;
 pub use laws::{
-    first_differences_are_unique, steps_are_unique, steps_keep_splittings, versions_are_splittings,
-    versions_are_unique, versions_grow_by_steps, versions_list_operators,
+    first_differences_are_unique, steps_are_unique, steps_exist, steps_keep_splittings,
+    versions_are_splittings, versions_are_unique, versions_exist, versions_grow_by_steps,
+    versions_list_operators,
 };
 pub use splitting::Splitting;
