@@ -48,6 +48,7 @@ impl Flights {
         requires unclaimed { claimer (view pass.old).seen (flight_key set.now.det symbol)
             ≢ Some ((view pass.old).number + 1) }
         ensures later { Continues pass.old pass.new }
+        ensures turn { (view pass.old).tries < (view pass.new).tries }
         ensures idle { (view pass.new).has_turn ≡ false }
         ensures column { IfOk result (λ column.
             IsColumnAt (setting_of self.now) (flight_key set.now.det symbol) (arc_value column)) }
@@ -83,6 +84,7 @@ impl Flights {
         requires unclaimed { claimer (view pass.old).seen (key_along walk.now symbol)
             ≢ Some ((view pass.old).number + 1) }
         ensures later { Continues pass.old pass.new }
+        ensures turn { (view pass.old).tries < (view pass.new).tries }
         ensures idle { (view pass.new).has_turn ≡ false }
         ensures column { IfOk result (λ column.
             IsColumnAt (setting_of self.now) (key_along walk.now symbol) (arc_value column)) }
@@ -127,6 +129,7 @@ impl Flights {
         requires unclaimed { claimer (view pass.old).seen (key_along walk.now symbol)
             ≢ Some ((view pass.old).number + 1) }
         ensures later { Continues pass.old pass.new }
+        ensures turn { (view pass.old).tries < (view pass.new).tries }
         ensures idle { (view pass.new).has_turn ≡ false }
         ensures column { IfOk result (λ found. IfSome found (λ column.
             IsColumnAt (setting_of self.now) (key_along walk.now symbol) (arc_value column))) }

@@ -43,6 +43,7 @@ impl Flights {
         requires unclaimed { claimer (view pass.old).seen (key_along walk.now symbol)
             ≢ Some ((view pass.old).number + 1) }
         ensures later { Continues pass.old pass.new }
+        ensures turn { (view pass.old).tries < (view pass.new).tries }
         ensures idle { (view pass.new).has_turn ≡ false }
         ensures column { IfOk result (λ found. IfSome found (λ column.
             IsColumnAt (setting_of self.now) (key_along walk.now symbol) (arc_value column))) }
@@ -81,6 +82,7 @@ impl Flights {
         requires idle { (view pass.old).has_turn ≡ false }
         requires unclaimed { claimer (view pass.old).seen key ≢ Some ((view pass.old).number + 1) }
         ensures later { Continues pass.old pass.new }
+        ensures turn { (view pass.old).tries < (view pass.new).tries }
         ensures idle { (view pass.new).has_turn ≡ false }
         ensures answer { IfOk result
             (IsAnswer (setting_of self.now) key ((view pass.old).number + 1)) }
