@@ -27,12 +27,12 @@ either P false x y a b = b
 -- ---- the index of an operator
 
 -- the first number of a range that passes a test is at most one that does
-record IsFirst (p : ℕ → Bool) (low high n : ℕ) : Type 0 where
-  least : low ≤ n
-  most : n ≤ high
-  passes : p n ≡ true
+pub record IsFirst (p : ℕ → Bool) (low high n : ℕ) : Type 0 where
+  pub least : low ≤ n
+  pub most : n ≤ high
+  pub passes : p n ≡ true
 
-first_passing : (p : ℕ → Bool) (low k high d : ℕ) → low ≤ high → high < low + k → p high ≡ true
+pub first_passing : (p : ℕ → Bool) (low k high d : ℕ) → low ≤ high → high < low + k → p high ≡ true
     → IsFirst p low high (get_or (filter p (range_with_len low k)) 0 d)
 first_passing p low zero high d above within passes = absurd (omega arith)
 first_passing p low (suc k) high d above within passes =

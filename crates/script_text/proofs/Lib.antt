@@ -5,6 +5,7 @@ pub mod DrawnTexts
 pub mod FormLemmas
 pub mod GeneratedLemmas
 pub mod GenerationLemmas
+mod LeastIndices
 pub mod ReadingLemmas
 pub mod ScriptLemmas
 pub mod SessionLemmas

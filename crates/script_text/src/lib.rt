@@ -33,7 +33,7 @@ pub use drawn_laws::{drawn_commands_fit, drawn_lines_are_read};
 pub use draws::Draws;
 pub use items::{Integers, Items, Terms};
 pub use kind::Kind;
-pub use laws::generated_scripts_have_four_sessions;
+pub use laws::{generated_scripts_have_four_sessions, indices_are_least};
 pub use limits::{MAX_COMMANDS, MAX_MAGNITUDE, MAX_SESSIONS, MAX_TERMS, limit_values};
 pub use line::CommandLine;
 pub use reading::parse_script;
