@@ -4,3 +4,4 @@ pub mod Workers
 pub mod Works
 pub mod Sessions
 pub mod Lookups
+pub mod Programs
