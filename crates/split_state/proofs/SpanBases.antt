@@ -1,5 +1,5 @@
 -- The span of each list of vectors of one length has a reduced echelon basis.
-use Rattle.std.proofs.Common.{◌≡◌, ◌≢◌, ◌⊎◌, ◌+◌, ◌<◌, ◌≤◌, ℕ, zero, suc, List, [], ◌∷◌, length, map, get_or, insert, All, refl, sym, ◌∙◌, ap, subst, inl, inr, arith}
+use Rattle.std.proofs.Common.{◌≡◌, ◌≢◌, ◌⊎◌, ◌<◌, ◌≤◌, ℕ, zero, suc, List, [], ◌∷◌, length, map, get_or, insert, All, refl, sym, ◌∙◌, ap, subst, inl, inr, arith}
 use Rattle.std.specs.List.{range_with_len}
 use Rattle.std.proofs.Math.ListN.{length-map}
 use Rattle.std.proofs.lemmas.Bool.{cases_eq, cases_lt}
@@ -9,7 +9,7 @@ use Rattle.std.proofs.lemmas.List.FromFn.{length-range_with_len}
 use Rattle.field_table.specs.Residues.{AreResidues}
 use Rattle.linear_algebra.specs.Prime.{IsPrime}
 use Rattle.linear_algebra.specs.Residue.{Residue, residue, ◌⊗◌}
-use Rattle.linear_algebra.specs.Vector.{Vector, ◌⊡◌, zeros, combination, EndsBefore}
+use Rattle.linear_algebra.specs.Vector.{Vector, ◌⊡◌, combination, EndsBefore}
 use Rattle.linear_algebra.specs.Dense.{dense, dense_rows}
 use Rattle.linear_algebra.specs.Echelon.{remainder}
 use Rattle.linear_algebra.specs.Span.{Each, none, more, InSpan}
