@@ -60,17 +60,20 @@ module _ {p : ℕ} (prime : IsPrime p) (N : ℕ) (f g : Vector p → Vector p) (
   positive = omega (arith, prime.above_one)
 
   -- column j of both products
-  column_same : (j : ℕ) → j < dimension N p → combination (dense p (get_or b j [])) (dense_rows p a) ≡ combination (dense p (get_or a j [])) (dense_rows p b)
+  column_same : (j : ℕ) → j < dimension N p → combination (dense p (get_or b j [])) (dense_rows p a) ≡ combination (dense p (get_or a j []))
+      (dense_rows p b)
   column_same j l =
       let u : Vector p = unit (get_or (free_symbols N p) j 0) in
       let here = matrix_of_image N positive f hf.linear a ha hf.keeps (g u) (dense p (get_or b j [])) (hb.each j l).coordinates in
       let there = matrix_of_image N positive g hg.linear b hb hg.keeps (f u) (dense p (get_or a j [])) (ha.each j l).coordinates in
       let again : IsCoordinates (length (symbols N)) (relations N) (f (g u)) (combination (dense p (get_or a j [])) (dense_rows p b)) = record {
         ends = there.ends;
-        congruent = Congruent_trans positive (relations N) (f (g u)) (g (f u)) (at_places (free_symbols N p) (combination (dense p (get_or a j [])) (dense_rows p b)))
+        congruent = Congruent_trans positive (relations N) (f (g u)) (g (f u))
+            (at_places (free_symbols N p) (combination (dense p (get_or a j [])) (dense_rows p b)))
             (same u) there.congruent;
       } in
-      coordinates_once positive (length (symbols N)) (relations N) (EndsBefore-relations p N) (f (g u)) (combination (dense p (get_or b j [])) (dense_rows p a))
+      coordinates_once positive (length (symbols N)) (relations N) (EndsBefore-relations p N) (f (g u))
+      (combination (dense p (get_or b j [])) (dense_rows p a))
       (combination (dense p (get_or a j [])) (dense_rows p b)) here again
 
   length-products : (c d : List (List ℕ)) → length (map (λ v. combination v (dense_rows p c)) (dense_rows p d)) ≡ length d
@@ -82,7 +85,8 @@ module _ {p : ℕ} (prime : IsPrime p) (N : ℕ) (f g : Vector p → Vector p) (
       ∙ ap (λ v. combination v (dense_rows p c)) (get_or-map (dense p) d j [] (dense p []) l)
 
   products_same : map (λ v. combination v (dense_rows p a)) (dense_rows p b) ≡ map (λ v. combination v (dense_rows p b)) (dense_rows p a)
-  products_same = same_rows (map (λ v. combination v (dense_rows p a)) (dense_rows p b)) (map (λ v. combination v (dense_rows p b)) (dense_rows p a))
+  products_same = same_rows (map (λ v. combination v (dense_rows p a)) (dense_rows p b))
+      (map (λ v. combination v (dense_rows p b)) (dense_rows p a))
       (length-products a b ∙ hb.count ∙ sym (length-products b a ∙ ha.count))
       (λ j l.
       let first : j < length b = omega (arith, l, length-products a b) in
@@ -90,9 +94,11 @@ module _ {p : ℕ} (prime : IsPrime p) (N : ℕ) (f g : Vector p → Vector p) (
       row_of_product a b j first ∙ column_same j (omega (arith, first, hb.count)) ∙ sym (row_of_product b a j second))
 
   pub matrices_commute : Commute (dense_rows p a) (dense_rows p b)
-  matrices_commute = record { same = λ v.
-      sym (combination-combinations v (dense_rows p b) (dense_rows p a)) ∙ ap (combination v) products_same
-      ∙ combination-combinations v (dense_rows p a) (dense_rows p b) }
+  matrices_commute = record {
+    same = λ v.
+        sym (combination-combinations v (dense_rows p b) (dense_rows p a)) ∙ ap (combination v) products_same
+        ∙ combination-combinations v (dense_rows p a) (dense_rows p b);
+  }
 
 merel_map : (N p n : ℕ) → 0 < p → 0 < n → gcd n N ≡ 1 → IsMap {p = p} N (merel_sum N n)
 merel_map N p n positive some coprime = record {
@@ -123,7 +129,8 @@ operator_matrices g (ops.T m) ops.Star prime h k a b ha hb =
     let p : ℕ = g.characteristic in
     let positive : 0 < p = omega (arith, prime.above_one) in
     matrices_commute prime N (merel_sum N m) (star N) (merel_map N p m positive h.0 h.1) (star_is_map N p positive)
-    (λ x. Congruent_sym positive (relations {p = p} N) (star N (merel_sum N m x)) (merel_sum N m (star N x)) (star_commutes p N m x positive h.0 h.1)) a b ha
+    (λ x. Congruent_sym positive (relations {p = p} N) (star N (merel_sum N m x)) (merel_sum N m (star N x))
+    (star_commutes p N m x positive h.0 h.1)) a b ha
     (stars_of_units N p b hb)
 operator_matrices g ops.Star (ops.T n) prime h k a b ha hb =
     let N : ℕ = g.level in

@@ -1,13 +1,12 @@
--- Bases of one lattice: a matrix is over g where it is g times a matrix of determinant 1.
-use Rattle.std.proofs.Common.{◌≡◌, ◌+◌, ◌-◌, ◌*◌, ◌<◌, ◌≤◌, ℕ, zero, suc, refl, sym, ◌∙◌, ap, subst, arith}
+-- Bases of one lattice: m is over g where m = g s with a matrix s of determinant 1. Each matrix of determinant n is over exactly one start.
+use Rattle.std.proofs.Common.{◌≡◌, ◌+◌, ◌-◌, ◌*◌, ◌<◌, ℕ, zero, suc, refl, sym, ◌∙◌, ap, subst, arith}
 use Rattle.std.specs.Prelude.{ℤ, pos, negsuc, neg_ℤ, ◌+ℤ◌, ◌-ℤ◌, ◌*ℤ◌}
 use Rattle.std.proofs.lemmas.Int.{ints}
 use Rattle.p1_normal.specs.declared.matrix.Matrix.{Matrix}
 use Rattle.p1_normal.specs.Actions.{matrix, product, determinant}
-use Rattle.heilbronn_sets.specs.Merel.{IsMerel}
 use Rattle.heilbronn_chains.specs.Lattice.{IsMultiple, InLattice, SameLattice}
 use Rattle.heilbronn_chains.specs.Starts.{IsStart}
-use Rattle.heilbronn_chains.proofs.Integers.{is_gap, pos_gap, neg_gap, gaps, gap_same}
+use Rattle.heilbronn_chains.proofs.Integers.{is_gap, pos_gap, gaps, gap_same}
 use Rattle.heilbronn_chains.proofs.ColumnSteps.{multiple_add, multiple_times, multiple_neg, SameLattice_sym}
 use Rattle.heilbronn_chains.proofs.Hermite.{has_start, start_unique}
 use Rattle.heilbronn_chains.proofs.Runs.{merel_from_start}
@@ -19,13 +18,16 @@ product_assoc x y z = same_matrix (law x.a x.b y.a y.b y.c y.d z.a z.c) (law x.a
     (law x.c x.d y.a y.b y.c y.d z.a z.c) (law x.c x.d y.a y.b y.c y.d z.b z.d)
   where
     law : (a b e f g h u v : ℤ) → (a *ℤ e +ℤ b *ℤ g) *ℤ u +ℤ (a *ℤ f +ℤ b *ℤ h) *ℤ v ≡ a *ℤ (e *ℤ u +ℤ f *ℤ v) +ℤ b *ℤ (g *ℤ u +ℤ h *ℤ v)
-    law a b e f g h u v = rw (is_gap a, is_gap b, is_gap e, is_gap f, is_gap g, is_gap h, is_gap u, is_gap v) (simp gaps (gap_same _ _ _ _ (omega arith)))
+    law a b e f g h u v = rw (is_gap a, is_gap b, is_gap e, is_gap f, is_gap g, is_gap h, is_gap u, is_gap v)
+        (simp gaps (gap_same _ _ _ _ (omega arith)))
 
 pub determinant-product : (m k : Matrix) → determinant (product m k) ≡ determinant m *ℤ determinant k
 determinant-product m k = law m.a m.b m.c m.d k.a k.b k.c k.d
   where
-    law : (a b c d x y z w : ℤ) → (a *ℤ x +ℤ b *ℤ z) *ℤ (c *ℤ y +ℤ d *ℤ w) -ℤ (a *ℤ y +ℤ b *ℤ w) *ℤ (c *ℤ x +ℤ d *ℤ z) ≡ (a *ℤ d -ℤ b *ℤ c) *ℤ (x *ℤ w -ℤ y *ℤ z)
-    law a b c d x y z w = rw (is_gap a, is_gap b, is_gap c, is_gap d, is_gap x, is_gap y, is_gap z, is_gap w) (simp gaps (gap_same _ _ _ _ (omega arith)))
+    law : (a b c d x y z w : ℤ) → (a *ℤ x +ℤ b *ℤ z) *ℤ (c *ℤ y +ℤ d *ℤ w) -ℤ (a *ℤ y +ℤ b *ℤ w) *ℤ (c *ℤ x +ℤ d *ℤ z) ≡ (a *ℤ d -ℤ b *ℤ c) *ℤ
+        (x *ℤ w -ℤ y *ℤ z)
+    law a b c d x y z w = rw (is_gap a, is_gap b, is_gap c, is_gap d, is_gap x, is_gap y, is_gap z, is_gap w)
+        (simp gaps (gap_same _ _ _ _ (omega arith)))
 
 -- ---- a positive factor is cancelled
 cancels : (n : ℕ) (x : ℤ) → 0 < n → x *ℤ pos n ≡ pos 0 → x ≡ pos 0
@@ -169,11 +171,13 @@ lattice_forth n g s x y h = record {
   where
     first : (a b c d u v x y : ℤ) → v *ℤ ((d *ℤ x) -ℤ (b *ℤ y)) +ℤ neg_ℤ (u *ℤ ((a *ℤ y) -ℤ (c *ℤ x)))
         ≡ ((c *ℤ u +ℤ d *ℤ v) *ℤ x) -ℤ ((a *ℤ u +ℤ b *ℤ v) *ℤ y)
-    first a b c d u v x y = rw (is_gap a, is_gap b, is_gap c, is_gap d, is_gap u, is_gap v, is_gap x, is_gap y) (simp gaps (gap_same _ _ _ _ (omega arith)))
+    first a b c d u v x y = rw (is_gap a, is_gap b, is_gap c, is_gap d, is_gap u, is_gap v, is_gap x, is_gap y)
+        (simp gaps (gap_same _ _ _ _ (omega arith)))
 
     second : (a b c d u v x y : ℤ) → u *ℤ ((a *ℤ y) -ℤ (c *ℤ x)) +ℤ neg_ℤ (v *ℤ ((d *ℤ x) -ℤ (b *ℤ y)))
         ≡ ((a *ℤ u +ℤ b *ℤ v) *ℤ y) -ℤ ((c *ℤ u +ℤ d *ℤ v) *ℤ x)
-    second a b c d u v x y = rw (is_gap a, is_gap b, is_gap c, is_gap d, is_gap u, is_gap v, is_gap x, is_gap y) (simp gaps (gap_same _ _ _ _ (omega arith)))
+    second a b c d u v x y = rw (is_gap a, is_gap b, is_gap c, is_gap d, is_gap u, is_gap v, is_gap x, is_gap y)
+        (simp gaps (gap_same _ _ _ _ (omega arith)))
 
 pub SameLattice-over : (n : ℕ) {g m : Matrix} → Over g m → SameLattice n g m
 SameLattice-over n {g} {m} h x y = (
@@ -258,7 +262,12 @@ start_determinant n m some h = (merel_from_start n m some h).determinant_is
 pub start_of : (n : ℕ) (m : Matrix) → 0 < n → determinant m ≡ pos n → Start n m
 start_of n m some e =
     let s = has_start n m some e in
-    record { start = s.start; is = s.is; over = Over-lattice n s.start m some (start_determinant n s.start some s.is) e (SameLattice_sym n m s.start s.same) }
+    record {
+      start = s.start;
+      is = s.is;
+      over = Over-lattice n s.start m some (start_determinant n s.start some s.is) e
+          (SameLattice_sym n m s.start s.same);
+    }
 
 pub one_start : (n : ℕ) (m k : Matrix) → 0 < n → IsStart n m → IsStart n k → Over m k → m ≡ k
 one_start n m k some g h over = start_unique n m k some g h (SameLattice-over n over)

@@ -1,30 +1,29 @@
--- The sum of a symbol over a chain of Merel's matrices, moved by a matrix, is the difference of two ways.
-use Rattle.std.proofs.Common.{◌≡◌, ◌≢◌, ◌+◌, ◌*◌, ◌<◌, ℕ, zero, suc, List, [], ◌∷◌, ◌++◌, length, All, refl, sym, ◌∙◌, ap, subst, arith}
-use Rattle.std.specs.Prelude.{ℤ, pos, negsuc, neg_ℤ, ◌+ℤ◌, ◌-ℤ◌, ◌*ℤ◌, ◌<ℤ◌, ◌≤ℤ◌, map}
+-- Along the chain of a lattice the ways telescope: the sum over the chain of a symbol that a matrix e moved is the difference of the ways from the
+-- second column of e and from the first, all in the lattice of e times the chain's matrices (`chain_sum`).
+use Rattle.std.proofs.Common.{◌≡◌, ◌≢◌, ◌+◌, ◌*◌, ◌<◌, ℕ, List, [], ◌∷◌, length, refl, sym, ◌∙◌, ap, subst, arith}
+use Rattle.std.specs.Prelude.{ℤ, pos, ◌+ℤ◌, ◌-ℤ◌, ◌*ℤ◌, ◌<ℤ◌, ◌≤ℤ◌}
 use Rattle.std.proofs.lemmas.Int.{ints}
 use Rattle.linear_algebra.specs.Vector.{Vector, ◌⊞◌, zeros}
 use Rattle.linear_algebra.specs.Coordinates.{unit}
-use Rattle.linear_algebra.specs.Integers.{residue_of}
-use Rattle.linear_algebra.proofs.Vectors.{plus-zeros, zeros-plus, plus_comm, plus_assoc}
+use Rattle.linear_algebra.proofs.Vectors.{plus-zeros, plus_assoc}
 use Rattle.linear_algebra.proofs.SparseLaws.{sparse_nil}
 use Rattle.p1_normal.specs.declared.matrix.Matrix.{Matrix}
-use Rattle.p1_normal.specs.Units.{gcd}
 use Rattle.p1_normal.specs.Points.{symbols}
-use Rattle.p1_normal.specs.Actions.{matrix, product, determinant, image_number, IsInvertible}
+use Rattle.p1_normal.specs.Actions.{product, determinant, image_number, IsInvertible}
 use Rattle.p1_normal.proofs.Moves.{image_number-lt}
 use Rattle.p1_normal.proofs.LevelLaws.{image_number_product}
 use Rattle.heilbronn_sets.specs.Merel.{IsMerel}
-use Rattle.heilbronn_chains.specs.Chains.{Follows, IsChain, member}
-use Rattle.heilbronn_chains.proofs.Integers.{is_gap, pos_gap, neg_gap, gaps, gap_same}
-use Rattle.heilbronn_chains.proofs.Runs.{IsRun, ChainRun, chain_run}
+use Rattle.heilbronn_chains.specs.Chains.{IsChain, member}
+use Rattle.heilbronn_chains.proofs.Integers.{is_gap, pos_gap, gaps, gap_same}
+use Rattle.heilbronn_chains.proofs.Runs.{IsRun, chain_run}
 use Rattle.hecke_columns.specs.Hecke.{symbol_sum}
 use Rattle.hecke_columns.proofs.Hits.{sparse-hits}
 use Rattle.hecke_columns.proofs.Permuted.{symbol_sum-append, symbol_sum-one}
-use Rattle.merel_theorem.proofs.Classes.{Same, same_refl, same_from, same_sym, same_trans, same_plus, same_left, same_right, same_cancel, same_by}
-use Rattle.merel_theorem.proofs.Signs.{toward, toward-scaled, Joins, joins_all}
+use Rattle.merel_theorem.proofs.Signs.{toward, toward-scaled, joins_all}
 use Rattle.merel_theorem.proofs.Bases.{Over, Over_trans, Over-left, Over-lattice}
+use Rattle.merel_theorem.proofs.Classes.{Same, same_by, same_from, same_right, same_trans}
 
--- ---- sums over a list, one matrix before the others
+-- ---- the sum of a symbol over matrices, one before the others
 pub sum-none : (p N k : ℕ) → symbol_sum {p = p} N [] k ≡ zeros
 sum-none p N k = sym (sparse-hits p N [] k) ∙ sparse_nil p
 
@@ -51,7 +50,8 @@ from_end-column : {p : ℕ} (N k : ℕ) (g : Matrix) (x z : ℤ) → determinant
     → from_end {p = p} N k g (g.a *ℤ x +ℤ g.b *ℤ z) (g.c *ℤ x +ℤ g.d *ℤ z) ≡ toward N x z (image_number N k g)
 unfolding from_end
 from_end-column {p} N k g x z some =
-    ap (λ w. toward {p = p} N w ((g.a *ℤ (g.c *ℤ x +ℤ g.d *ℤ z)) -ℤ (g.c *ℤ (g.a *ℤ x +ℤ g.b *ℤ z))) (image_number N k g)) (first g.a g.b g.c g.d x z)
+    ap (λ w. toward {p = p} N w ((g.a *ℤ (g.c *ℤ x +ℤ g.d *ℤ z)) -ℤ (g.c *ℤ (g.a *ℤ x +ℤ g.b *ℤ z))) (image_number N k g))
+    (first g.a g.b g.c g.d x z)
     ∙ ap (λ w. toward {p = p} N (determinant g *ℤ x) w (image_number N k g)) (second g.a g.b g.c g.d x z)
     ∙ toward-scaled N (determinant g) x z (image_number N k g) some
   where
@@ -72,12 +72,13 @@ over_joins p N k g m positive within unit_g some h =
     ((joins_all p N h.factor positive h.one).joins (image_number N k g) (image_number-lt N k g within unit_g)))
 
 -- ---- along a chain, with a matrix e on the left
-not_zero : (a b : ℤ) → b <ℤ a → pos 0 ≤ℤ b → a ≢ pos 0
+pub not_zero : (a b : ℤ) → b <ℤ a → pos 0 ≤ℤ b → a ≢ pos 0
 not_zero a b l m e = omega (arith, ints, l, m, e)
 
 run_sum : (p N k n : ℕ) (g e m : Matrix) (ks : List Matrix) → 0 < p → 0 < n → k < length (symbols N) → IsInvertible N g → determinant g ≢ pos 0
     → IsInvertible N e → IsMerel n m → IsRun n m ks → Over g (product e m)
-    → Same {p = p} N (symbol_sum N (m ∷ ks) (image_number N k e) ⊞ from_end N k g e.a e.c) (from_end N k g (e.a *ℤ m.b +ℤ e.b *ℤ m.d) (e.c *ℤ m.b +ℤ e.d *ℤ m.d))
+    → Same {p = p} N (symbol_sum N (m ∷ ks) (image_number N k e) ⊞ from_end N k g e.a e.c)
+    (from_end N k g (e.a *ℤ m.b +ℤ e.b *ℤ m.d) (e.c *ℤ m.b +ℤ e.d *ℤ m.d))
 run_sum p N k n g e m [] positive some_n within unit_g some unit_e is run over =
     same_by (ap (λ v. v ⊞ from_end N k g e.a e.c) (sum-more p N m [] (image_number N k e)
     ∙ ap (λ v. unit (image_number N (image_number N k e) m) ⊞ v) (sum-none p N (image_number N k e))
@@ -99,13 +100,17 @@ run_sum p N k n g e m [] positive some_n within unit_g some unit_e is run over =
 run_sum p N k n g e m (l ∷ ks) positive some_n within unit_g some unit_e is run over =
     let j : ℕ = image_number N k e in
     let last : Vector p = from_end N k g e.a e.c in
-    let next : Over g (product e l) = Over_trans over (Over-left e (Over-lattice n m l some_n is.determinant_is run.0.is_member.determinant_is run.0.lattice)) in
+    let next : Over g (product e l) = Over_trans over
+    (Over-left e (Over-lattice n m l some_n is.determinant_is run.0.is_member.determinant_is run.0.lattice)) in
     let rest = run_sum p N k n g e l ks positive some_n within unit_g some unit_e run.0.is_member run.1 next in
-    let link : from_end {p = p} N k g (e.a *ℤ l.b +ℤ e.b *ℤ l.d) (e.c *ℤ l.b +ℤ e.d *ℤ l.d) ≡ from_end N k g (e.a *ℤ m.a +ℤ e.b *ℤ m.c) (e.c *ℤ m.a +ℤ e.d *ℤ m.c) =
+    let link : from_end {p = p} N k g (e.a *ℤ l.b +ℤ e.b *ℤ l.d) (e.c *ℤ l.b +ℤ e.d *ℤ l.d) ≡ from_end N k g (e.a *ℤ m.a +ℤ e.b *ℤ m.c)
+    (e.c *ℤ m.a +ℤ e.d *ℤ m.c) =
     ap (λ w. from_end {p = p} N k g (e.a *ℤ w +ℤ e.b *ℤ l.d) (e.c *ℤ w +ℤ e.d *ℤ l.d)) run.0.upper
     ∙ ap (λ w. from_end {p = p} N k g (e.a *ℤ m.a +ℤ e.b *ℤ w) (e.c *ℤ m.a +ℤ e.d *ℤ w)) run.0.lower in
-    same_trans positive (same_by (ap (λ v. v ⊞ last) (sum-more p N m (l ∷ ks) j) ∙ plus_assoc (unit (image_number N j m)) (symbol_sum N (l ∷ ks) j) last
-    ∙ ap (λ i. unit i ⊞ (symbol_sum N (l ∷ ks) j ⊞ last)) (image_number_product N k e m within unit_e)) (ap (λ v. unit (image_number N k (product e m)) ⊞ v) (sym link))
+    same_trans positive (same_by (ap (λ v. v ⊞ last) (sum-more p N m (l ∷ ks) j) ∙ plus_assoc (unit (image_number N j m))
+    (symbol_sum N (l ∷ ks) j) last
+    ∙ ap (λ i. unit i ⊞ (symbol_sum N (l ∷ ks) j ⊞ last)) (image_number_product N k e m within unit_e)) (ap
+    (λ v. unit (image_number N k (product e m)) ⊞ v) (sym link))
     (same_right positive (unit (image_number N k (product e m))) rest))
     (over_joins p N k g (product e m) positive within unit_g some over)
 

@@ -1,40 +1,28 @@
--- How many starts of determinant m divide a matrix of determinant m n: as many as of determinant n.
-use Rattle.std.proofs.Common.{◌≡◌, ◌≢◌, ◌+◌, ◌*◌, ◌<◌, ◌≤◌, ℕ, zero, suc, Bool, true, List, [], ◌∷◌, length, All, refl, sym, ◌∙◌, ap, subst, arith}
+-- How many lattices of index m a lattice of index m n lies in: as many as of index n (`counts_same`); and the lattices of index m n in that of h
+-- are those of h times the starts of determinant n (`multiples`).
+use Rattle.std.proofs.Common.{◌≡◌, ◌≢◌, ◌*◌, ◌<◌, ◌≤◌, ℕ, Bool, List, [], ◌∷◌, length, All, sym, ◌∙◌, ap, subst, arith}
 use Rattle.std.specs.Prelude.{ℤ, pos, ◌*ℤ◌, filter}
-use Rattle.std.specs.List.{Contains, AllPairs}
+use Rattle.std.specs.List.{Contains}
 use Rattle.std.specs.List.Sorted.{IsPermutation}
-use Rattle.std.proofs.lemmas.Int.{ints}
-use Rattle.std.proofs.lemmas.Bool.{cond_both, false≢true}
-use Rattle.std.proofs.lemmas.List.Elements.{All-nil, All-cons, All-contains, All-filter, filter_passes}
+use Rattle.std.proofs.lemmas.List.Elements.{All-nil, All-cons, All-contains, All-filter}
 use Rattle.std.proofs.lemmas.List.Kept.{AllPairs-filter}
 use Rattle.p1_normal.specs.declared.matrix.Matrix.{Matrix}
 use Rattle.p1_normal.specs.Actions.{product, determinant}
 use Rattle.heilbronn_sets.specs.Merel.{starts}
 use Rattle.heilbronn_chains.specs.Starts.{IsStart}
 use Rattle.heilbronn_chains.proofs.ChainLists.{All-starts, Contains-starts}
-use Rattle.merel_theorem.proofs.Bases.{determinant-product, determinant-adjoint, cancelled, times_comm, one_times, product_assoc, adjoint, Over, Over_sym, Over_trans, Over-left, start_of, start_determinant, one_start}
-use Rattle.merel_theorem.proofs.Factors.{Divides, Divides-over, divides, divides_from_test, test_from_divides, cancel_left, transpose, Symmetric, symmetric, across, across_divides, across_one, across_determinant, fewer}
-use Rattle.merel_theorem.proofs.Totals.{same_members}
+use Rattle.merel_theorem.proofs.Bases.{determinant-product, cancelled, times_comm, product_assoc, Over, Over_sym, Over_trans, Over-left, start_of, start_determinant, one_start}
+use Rattle.merel_theorem.proofs.Factors.{Divides, Divides-over, divides, divides_from_test, test_from_divides, cancel_left, Symmetric, symmetric, across, across_divides, across_one, across_determinant}
 use Rattle.merel_theorem.proofs.Lands.{Lands, none, more, lands_starts, lands_apart, landed, starts_apart}
-
--- ---- members of a filtered list
-pub contains_filter : {X : Type 0} (p : X → Bool) (xs : List X) (x : X) → Contains xs x → p x ≡ true → Contains (filter p xs) x
-contains_filter p [] x (k, l, same) e = absurd (omega (arith, l))
-contains_filter p (y ∷ ys) x (zero, l, same) e = cond_both (p y) (y ∷ filter p ys) (filter p ys) (λ zs. Contains zs x)
-    (λ passes. (0, omega arith, same))
-    (λ fails. absurd (false≢true (sym fails ∙ ap p same ∙ e)))
-contains_filter p (y ∷ ys) x (suc k, l, same) e =
-    let (j, m, here) = contains_filter p ys x (k, omega (arith, l), same) e in
-    cond_both (p y) (y ∷ filter p ys) (filter p ys) (λ zs. Contains zs x) (λ passes. (suc j, omega (arith, m), here)) (λ fails. (j, m, here))
-
-pub filtered_passes : {X : Type 0} (p : X → Bool) (xs : List X) (x : X) → Contains (filter p xs) x → p x ≡ true
-filtered_passes p xs x inside = All-contains (λ x. p x ≡ true) (filter p xs) x (filter_passes p xs) inside
+use Rattle.merel_theorem.proofs.Members.{contains_filter, fewer, filtered_passes, same_members}
+use Rattle.merel_theorem.proofs.Moved.{positive_times}
 
 pub filtered_start : (n : ℕ) (p : Matrix → Bool) (x : Matrix) → Contains (filter p (starts n)) x → IsStart n x
 filtered_start n p x inside = All-contains (IsStart n) (filter p (starts n)) x (All-filter p (IsStart n) (starts n) (All-starts n)) inside
 
 -- the cofactor's determinant
-pub cofactor_determinant : (m n : ℕ) (h w t : Matrix) → 0 < m → determinant h ≡ pos m → determinant t ≡ pos (m * n) → t ≡ product h w → determinant w ≡ pos n
+pub cofactor_determinant : (m n : ℕ) (h w t : Matrix) → 0 < m → determinant h ≡ pos m → determinant t ≡ pos (m * n) → t ≡ product h w
+    → determinant w ≡ pos n
 cofactor_determinant m n h w t some e f is = cancelled m (determinant w) (pos n) some
     (times_comm (determinant w) (pos m) ∙ ap (λ z. z *ℤ determinant w) (sym e) ∙ sym (determinant-product h w) ∙ ap determinant (sym is) ∙ f
     ∙ times_comm (pos m) (pos n))
@@ -66,11 +54,6 @@ counts_le m n t s some other det =
     (λ h k p a b. sym (one_start m k h some b.start a.start
     (across_one t h k a.cofactor b.cofactor s n other a.one a.is b.is (Over_trans (Over_sym a.over) b.over))))
 
-positive_times : (m n : ℕ) → 0 < m → 0 < n → 0 < m * n
-positive_times zero n l k = absurd (omega (arith, l))
-positive_times (suc m) zero l k = absurd (omega (arith, k))
-positive_times (suc m) (suc n) l k = omega arith
-
 pub counts_same : (m n : ℕ) (t : Matrix) → 0 < m → 0 < n → IsStart (m * n) t
     → length (filter (λ h. divides m h t) (starts m)) ≡ length (filter (λ h. divides n h t) (starts n))
 counts_same m n t some other is =
@@ -95,7 +78,8 @@ lands_divides q s [] (t ∷ ts) x = elim x [ ]
 lands_divides q s (h ∷ hs) [] x = elim x [ ]
 lands_divides q s (h ∷ hs) (t ∷ ts) (more is over rest) =
     let back = Over_sym over in
-    All-cons (Divides s) t ts (record { cofactor = product h back.factor; is = back.is ∙ product_assoc s h back.factor }) (lands_divides q s hs ts rest)
+    All-cons (Divides s) t ts (record { cofactor = product h back.factor; is = back.is ∙ product_assoc s h back.factor })
+    (lands_divides q s hs ts rest)
 
 pub multiples : (m n : ℕ) (h : Matrix) (ts : List Matrix) → 0 < m → 0 < n → determinant h ≡ pos m → Lands (m * n) (product h) (starts n) ts
     → IsPermutation ts (filter (λ t. divides m h t) (starts (m * n)))

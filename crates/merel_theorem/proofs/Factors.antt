@@ -1,24 +1,18 @@
--- Left factors of a matrix: of determinant m there are as many, up to a matrix of determinant 1 on the right, as of determinant n in a matrix of
--- determinant m n. For that matrix is, up to matrices of determinant 1 on both sides, its own transpose, and transposes exchange the factors.
-use Rattle.std.proofs.Common.{◌≡◌, ◌≢◌, ◌+◌, ◌-◌, ◌*◌, ◌/◌, ◌%◌, ◌<◌, ◌≤◌, ◌&&◌, ℕ, zero, suc, Bool, true, List, [], ◌∷◌, length, nat_eq, refl, sym, ◌∙◌, ap, subst, inl, inr, arith, eq-eqb, eqb-true}
+-- A lattice of index m n lies in as many lattices of index m as of index n. For its matrix is symmetric up to matrices of determinant 1 on both
+-- sides, and transposing turns a left factor of determinant m into one of determinant n (`across_divides`, `across_one`).
+use Rattle.std.proofs.Common.{◌≡◌, ◌≢◌, ◌+◌, ◌-◌, ◌*◌, ◌/◌, ◌%◌, ◌<◌, ◌≤◌, ◌&&◌, ℕ, zero, suc, Bool, true, nat_eq, refl, sym, ◌∙◌, ap, subst, inl, inr, arith, eq-eqb, eqb-true}
 use Rattle.std.specs.Prelude.{ℤ, pos, negsuc, neg_ℤ, ◌+ℤ◌, ◌-ℤ◌, ◌*ℤ◌, unsigned_abs}
-use Rattle.std.specs.List.{Contains, AllPairs, remove}
-use Rattle.std.specs.List.Sorted.{IsPermutation}
 use Rattle.std.proofs.Math.Nat.{div-add-mod, mod-lt, mul-mod_left}
 use Rattle.std.proofs.lemmas.Int.{ints}
 use Rattle.std.proofs.lemmas.Bool.{cases_eq, and_parts, and_from}
-use Rattle.std.proofs.lemmas.List.Elements.{All-contains}
-use Rattle.std.proofs.lemmas.List.Sorted.{Contains-permutation, IsPermutation-remove, length_permutation}
 use Rattle.p1_normal.specs.declared.matrix.Matrix.{Matrix}
 use Rattle.p1_normal.specs.Actions.{matrix, product, determinant, matrix_s}
 use Rattle.heilbronn_chains.specs.Lattice.{IsMultiple, InLattice}
 use Rattle.heilbronn_chains.specs.Starts.{IsStart}
-use Rattle.heilbronn_chains.proofs.Integers.{is_gap, pos_gap, neg_gap, gaps, gap_same}
+use Rattle.heilbronn_chains.proofs.Integers.{is_gap, pos_gap, gaps, gap_same}
 use Rattle.heilbronn_chains.proofs.Hermite.{start_entries, some_factor}
-use Rattle.heilbronn_chains.proofs.Order.{contains_cases, pairs_head, pairs_tail}
 use Rattle.merel_theorem.proofs.Terms.{same_matrix, identity}
-use Rattle.merel_theorem.proofs.Totals.{later}
-use Rattle.merel_theorem.proofs.Bases.{product_assoc, determinant-product, cancelled, times_comm, one_times, one_and_one, adjoint, determinant-adjoint, undone_left, undone_right, left_identity, right_identity, Over, Over_sym, Over_trans, Over-left, Over-cancel, factored, start_of, start_determinant, one_start}
+use Rattle.merel_theorem.proofs.Bases.{product_assoc, determinant-product, cancelled, times_comm, one_times, one_and_one, adjoint, determinant-adjoint, undone_left, undone_right, left_identity, right_identity, Over, Over_sym, Over-cancel, factored, start_of, start_determinant}
 
 -- ---- a left factor
 pub record Divides (h g : Matrix) : Type 0 where
@@ -53,7 +47,11 @@ multiple_from_test n (pos k) e =
     law n q k e = omega (arith, ints, e)
 multiple_from_test n (negsuc k) e =
     let none : suc k % n ≡ 0 = eqb-true (suc k % n) 0 e in
-    record { quotient = neg_ℤ (pos (suc k / n)); product = law (pos (suc k / n)) (pos n) ∙ ap neg_ℤ (whole n (suc k / n) (suc k) (omega (arith, div-add-mod (suc k) n, none))) }
+    record {
+      quotient = neg_ℤ (pos (suc k / n));
+      product = law (pos (suc k / n)) (pos n) ∙ ap neg_ℤ
+          (whole n (suc k / n) (suc k) (omega (arith, div-add-mod (suc k) n, none)));
+    }
   where
     law : (q n : ℤ) → neg_ℤ q *ℤ n ≡ neg_ℤ (q *ℤ n)
     law q n = rw (is_gap q, is_gap n) (simp gaps (gap_same _ _ _ _ (omega arith)))
@@ -107,7 +105,8 @@ test_from_divides n h g det d =
 
 -- ---- a factor of positive determinant is cancelled
 pub cancel_right : (n : ℕ) (x y w : Matrix) → 0 < n → determinant w ≡ pos n → product x w ≡ product y w → x ≡ y
-cancel_right n x y w some det e = same_matrix (left x.a x.b y.a y.b (ap (λ k. k.a) e) (ap (λ k. k.b) e)) (right x.a x.b y.a y.b (ap (λ k. k.a) e) (ap (λ k. k.b) e))
+cancel_right n x y w some det e = same_matrix (left x.a x.b y.a y.b (ap (λ k. k.a) e) (ap (λ k. k.b) e))
+    (right x.a x.b y.a y.b (ap (λ k. k.a) e) (ap (λ k. k.b) e))
     (left x.c x.d y.c y.d (ap (λ k. k.c) e) (ap (λ k. k.d) e)) (right x.c x.d y.c y.d (ap (λ k. k.c) e) (ap (λ k. k.d) e))
   where
     first : (a b c d x z : ℤ) → x *ℤ (a *ℤ d -ℤ b *ℤ c) ≡ ((x *ℤ a +ℤ z *ℤ c) *ℤ d) -ℤ ((x *ℤ b +ℤ z *ℤ d) *ℤ c)
@@ -117,11 +116,13 @@ cancel_right n x y w some det e = same_matrix (left x.a x.b y.a y.b (ap (λ k. k
     second a b c d x z = rw (is_gap a, is_gap b, is_gap c, is_gap d, is_gap x, is_gap z) (simp gaps (gap_same _ _ _ _ (omega arith)))
 
     left : (x z u v : ℤ) → x *ℤ w.a +ℤ z *ℤ w.c ≡ u *ℤ w.a +ℤ v *ℤ w.c → x *ℤ w.b +ℤ z *ℤ w.d ≡ u *ℤ w.b +ℤ v *ℤ w.d → x ≡ u
-    left x z u v f g = cancelled n x u some (ap (λ k. x *ℤ k) (sym det) ∙ first w.a w.b w.c w.d x z ∙ ap (λ k. (k *ℤ w.d) -ℤ ((x *ℤ w.b +ℤ z *ℤ w.d) *ℤ w.c)) f
+    left x z u v f g = cancelled n x u some (ap (λ k. x *ℤ k) (sym det) ∙ first w.a w.b w.c w.d x z ∙ ap
+        (λ k. (k *ℤ w.d) -ℤ ((x *ℤ w.b +ℤ z *ℤ w.d) *ℤ w.c)) f
         ∙ ap (λ k. ((u *ℤ w.a +ℤ v *ℤ w.c) *ℤ w.d) -ℤ (k *ℤ w.c)) g ∙ sym (first w.a w.b w.c w.d u v) ∙ ap (λ k. u *ℤ k) det)
 
     right : (x z u v : ℤ) → x *ℤ w.a +ℤ z *ℤ w.c ≡ u *ℤ w.a +ℤ v *ℤ w.c → x *ℤ w.b +ℤ z *ℤ w.d ≡ u *ℤ w.b +ℤ v *ℤ w.d → z ≡ v
-    right x z u v f g = cancelled n z v some (ap (λ k. z *ℤ k) (sym det) ∙ second w.a w.b w.c w.d x z ∙ ap (λ k. (k *ℤ w.a) -ℤ ((x *ℤ w.a +ℤ z *ℤ w.c) *ℤ w.b)) g
+    right x z u v f g = cancelled n z v some
+        (ap (λ k. z *ℤ k) (sym det) ∙ second w.a w.b w.c w.d x z ∙ ap (λ k. (k *ℤ w.a) -ℤ ((x *ℤ w.a +ℤ z *ℤ w.c) *ℤ w.b)) g
         ∙ ap (λ k. ((u *ℤ w.b +ℤ v *ℤ w.d) *ℤ w.a) -ℤ (k *ℤ w.b)) f ∙ sym (second w.a w.b w.c w.d u v) ∙ ap (λ k. v *ℤ k) det)
 
 -- ---- transposes
@@ -218,14 +219,17 @@ symmetric_within (suc fuel) n h some is l =
       })
       | inr rest ↦
           let m : Matrix = product matrix_s (product s h) in
-          let det : determinant m ≡ pos n = determinant-product matrix_s (product s h) ∙ one_times (determinant (product s h)) ∙ determinant-product s h
+          let det : determinant m ≡ pos n = determinant-product matrix_s (product s h) ∙ one_times (determinant (product s h))
+          ∙ determinant-product s h
           ∙ ap (λ z. z *ℤ determinant h) (lowering_one q) ∙ one_times (determinant h) ∙ start_determinant n h some is in
           let k = start_of n m some det in
           let ke = start_entries n k.start some k.is in
           let back = Over_sym k.over in
           let first : pos ke.a *ℤ k.over.factor.a ≡ neg_ℤ (pos r) = corner ke.a ke.c ke.d k.over.factor.a k.over.factor.c
-          ∙ ap (λ w. (product w k.over.factor).a) (sym ke.is) ∙ ap (λ w. w.a) (sym k.over.is) ∙ ap (λ w. (product matrix_s w).a) row ∙ turned e.a r in
-          let lower : ke.a ≤ fuel = small ke.a r fuel k.over.factor.a rest (omega (arith, mod-lt e.c more, l, ap (λ m. unsigned_abs m.a) e.is)) first in
+          ∙ ap (λ w. (product w k.over.factor).a) (sym ke.is) ∙ ap (λ w. w.a) (sym k.over.is) ∙ ap (λ w. (product matrix_s w).a) row
+          ∙ turned e.a r in
+          let lower : ke.a ≤ fuel = small ke.a r fuel k.over.factor.a rest
+          (omega (arith, mod-lt e.c more, l, ap (λ m. unsigned_abs m.a) e.is)) first in
           symmetric_from (product matrix_s s) back.factor h k.start (one_and_one matrix_s s refl (lowering_one q))
           back.one
           (back.is ∙ ap (λ w. product w back.factor) (sym (product_assoc matrix_s s h)))
@@ -253,18 +257,21 @@ pub across_determinant : (t w : Matrix) (s : Symmetric t) → determinant (acros
 across_determinant t w s = determinant-product (adjoint s.left) (product (transpose s.right) (transpose w))
     ∙ ap (λ z. z *ℤ determinant (product (transpose s.right) (transpose w))) (determinant-adjoint s.left ∙ s.left_one)
     ∙ one_times (determinant (product (transpose s.right) (transpose w))) ∙ determinant-product (transpose s.right) (transpose w)
-    ∙ ap (λ z. z *ℤ determinant (transpose w)) (determinant-transpose s.right ∙ s.right_one) ∙ one_times (determinant (transpose w)) ∙ determinant-transpose w
+    ∙ ap (λ z. z *ℤ determinant (transpose w)) (determinant-transpose s.right ∙ s.right_one) ∙ one_times (determinant (transpose w))
+    ∙ determinant-transpose w
 
 pub across_divides : (t h w : Matrix) (s : Symmetric t) → t ≡ product h w → Divides (across s w) t
 across_divides t h w s e = record {
   cofactor = product (transpose h) (product (transpose s.left) (adjoint s.right));
   is = sym (undone_left s.left t s.left_one) ∙ ap (product (adjoint s.left)) (sym (undone_right (product s.left t) s.right s.right_one)
       ∙ ap (λ k. product k (adjoint s.right)) (sym s.same ∙ transpose-product (product s.left t) s.right
-      ∙ ap (product (transpose s.right)) (transpose-product s.left t ∙ ap (λ k. product k (transpose s.left)) (ap transpose e ∙ transpose-product h w))))
+      ∙ ap (product (transpose s.right)) (transpose-product s.left t ∙ ap (λ k. product k (transpose s.left))
+      (ap transpose e ∙ transpose-product h w))))
       ∙ regroup (adjoint s.left) (transpose s.right) (transpose w) (transpose h) (transpose s.left) (adjoint s.right);
 }
   where
-    regroup : (a b w h c d : Matrix) → product a (product (product b (product (product w h) c)) d) ≡ product (product a (product b w)) (product h (product c d))
+    regroup : (a b w h c d : Matrix) → product a (product (product b (product (product w h) c)) d) ≡ product (product a (product b w))
+        (product h (product c d))
     regroup a b w h c d =
         ap (product a) (product_assoc b (product (product w h) c) d
         ∙ ap (product b) (product_assoc (product w h) c d ∙ product_assoc w h (product c d)) ∙ sym (product_assoc b w (product h (product c d))))
@@ -278,25 +285,7 @@ across_one t h k w v s n some det e f over =
     let v_is : v ≡ product (transpose inner.factor) w = ap transpose inner.is ∙ transpose-product (transpose w) inner.factor in
     record {
       factor = transpose inner.factor;
-      is = cancel_right n h (product k (transpose inner.factor)) w some det (sym e ∙ f ∙ ap (product k) v_is ∙ sym (product_assoc k (transpose inner.factor) w));
+      is = cancel_right n h (product k (transpose inner.factor)) w some det
+          (sym e ∙ f ∙ ap (product k) v_is ∙ sym (product_assoc k (transpose inner.factor) w));
       one = determinant-transpose inner.factor ∙ inner.one;
     }
-
--- ---- where distinct elements of xs belong to distinct ones of ys, there are no more of them
-pub fewer : (R : Matrix → Matrix → Type 0) (xs ys : List Matrix) → AllPairs (λ x y. x ≢ y) xs → ((x : Matrix) → Contains xs x → (y : Matrix) × R x y × Contains ys y)
-    → ((x z y : Matrix) → R x y → R z y → x ≡ z) → length xs ≤ length ys
-fewer R [] ys apart into one = omega arith
-fewer R (x ∷ xs) ys apart into one =
-    let (y, related, (i, l, same)) = into x (0, omega arith, refl) in
-    let rest = remove ys i in
-    let order : IsPermutation ys (y ∷ rest) = IsPermutation-remove ys i y l (sym same) in
-    let inner = fewer R xs rest (pairs_tail (λ x y. x ≢ y) x xs apart) (λ z inside.
-    let (u, again, within) = into z (later x xs z inside) in (
-      u,
-      again,
-      elim (contains_cases y rest u (Contains-permutation ys (y ∷ rest) u order within)) [
-        | inl e ↦ absurd (All-contains (λ w. x ≢ w) xs z (pairs_head (λ x y. x ≢ y) x xs apart) inside (one x z u (subst (R x) e related) again))
-        | inr other ↦ other
-      ],
-    )) one in
-    omega (arith, inner, length_permutation ys (y ∷ rest) order)

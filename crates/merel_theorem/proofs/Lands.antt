@@ -1,14 +1,15 @@
--- A matrix of determinant 1 on the left takes the lattices of one index to one another: the starts in another order.
-use Rattle.std.proofs.Common.{◌≡◌, ◌≢◌, ◌+◌, ◌<◌, ℕ, zero, suc, List, [], ◌∷◌, length, get_or, All, refl, sym, ◌∙◌, ap, subst, arith}
-use Rattle.std.specs.Prelude.{ℤ, pos, negsuc, neg_ℤ, ◌*ℤ◌, map, filter}
+-- A map of lattices that keeps different lattices apart takes the lattices of one index to lattices of another; a matrix of determinant 1 on the
+-- left permutes those of one index (`lands_permutation`). Each start begins a chain.
+use Rattle.std.proofs.Common.{◌≡◌, ◌≢◌, ◌+◌, ◌<◌, ℕ, zero, suc, List, [], ◌∷◌, All, refl, sym, ◌∙◌, ap, subst, arith}
+use Rattle.std.specs.Prelude.{ℤ, pos, neg_ℤ, ◌*ℤ◌, map}
 use Rattle.std.specs.Ordering.{int_eq}
 use Rattle.std.specs.List.{Contains, AllPairs}
 use Rattle.std.specs.List.Sorted.{IsPermutation}
 use Rattle.std.proofs.lemmas.Int.{ints}
-use Rattle.std.proofs.lemmas.List.Elements.{All-nil, All-cons, All-head, All-tail, All-contains}
+use Rattle.std.proofs.lemmas.List.Elements.{All-nil, All-cons, All-head, All-tail, All-contains, Contains-append_right}
 use Rattle.std.proofs.lemmas.List.Kept.{AllPairs-cons, AllPairs-filter}
 use Rattle.p1_normal.specs.declared.matrix.Matrix.{Matrix}
-use Rattle.p1_normal.specs.Actions.{matrix, product, determinant}
+use Rattle.p1_normal.specs.Actions.{product, determinant}
 use Rattle.heilbronn_sets.specs.Merel.{merel_matrices, starts}
 use Rattle.heilbronn_chains.specs.Starts.{IsStart}
 use Rattle.heilbronn_chains.specs.Chains.{IsChain, member}
@@ -17,8 +18,8 @@ use Rattle.heilbronn_chains.proofs.Runs.{has_run, chain_from_run, merel_from_sta
 use Rattle.heilbronn_chains.proofs.Order.{merel_rises, pairs_head, pairs_tail}
 use Rattle.heilbronn_chains.proofs.ChainLists.{All-starts, Contains-starts}
 use Rattle.merel_theorem.proofs.Terms.{same_matrix}
-use Rattle.merel_theorem.proofs.Bases.{adjoint, determinant-adjoint, determinant-product, one_times, undone_left, Over, Over_sym, Over_trans, Over-left, Over-cancel, Start, start_of, start_determinant, one_start}
-use Rattle.merel_theorem.proofs.Totals.{later, same_members}
+use Rattle.merel_theorem.proofs.Bases.{adjoint, determinant-adjoint, determinant-product, one_times, undone_left, Over, Over_sym, Over_trans, Over-left, Over-cancel, start_of, start_determinant, one_start}
+use Rattle.merel_theorem.proofs.Members.{same_members}
 
 pub starts_apart : (n : ℕ) → AllPairs (λ x y. x ≢ y) (starts n)
 starts_apart n = λ i j d l lower.
@@ -31,7 +32,8 @@ pub data Lands (q : ℕ) (f : Matrix → Matrix) : List Matrix → List Matrix �
   none : Lands q f [] []
   more : {t h : Matrix} {ts hs : List Matrix} → IsStart q t → Over t (f h) → Lands q f hs ts → Lands q f (h ∷ hs) (t ∷ ts)
 
-pub lands : (n q : ℕ) (f : Matrix → Matrix) (hs : List Matrix) → 0 < q → ((h : Matrix) → IsStart n h → determinant (f h) ≡ pos q) → All (IsStart n) hs
+pub lands : (n q : ℕ) (f : Matrix → Matrix) (hs : List Matrix) → 0 < q → ((h : Matrix) → IsStart n h → determinant (f h) ≡ pos q) → All
+    (IsStart n) hs
     → (ts : List Matrix) × Lands q f hs ts
 lands n q f [] some det all = ([], none)
 lands n q f (h ∷ hs) some det all =
@@ -49,7 +51,8 @@ lands_starts q f (h ∷ hs) (t ∷ ts) (more is over rest) = All-cons (IsStart q
 abbrev pub Keeps : (Matrix → Matrix) → Type 0
 Keeps f = (g m : Matrix) → Over (f g) (f m) → Over g m
 
-lands_other : (n q : ℕ) (f : Matrix → Matrix) (t h : Matrix) (hs ts : List Matrix) → 0 < n → Keeps f → IsStart n h → Over t (f h) → All (IsStart n) hs
+lands_other : (n q : ℕ) (f : Matrix → Matrix) (t h : Matrix) (hs ts : List Matrix) → 0 < n → Keeps f → IsStart n h → Over t (f h) → All
+    (IsStart n) hs
     → All (λ w. h ≢ w) hs → Lands q f hs ts → All (λ w. t ≢ w) ts
 lands_other n q f t h [] [] some keeps is over all apart none = All-nil (λ w. t ≢ w)
 lands_other n q f t h [] (u ∷ ts) some keeps is over all apart x = elim x [ ]
@@ -60,14 +63,16 @@ lands_other n q f t h (k ∷ hs) (u ∷ ts) some keeps is over all apart (more s
     (keeps h k (Over_trans (Over_sym over) (subst (λ w. Over w (f k)) (sym same) above)))))
     (lands_other n q f t h hs ts some keeps is over (All-tail (IsStart n) k hs all) (All-tail (λ w. h ≢ w) k hs apart) rest)
 
-pub lands_apart : (n q : ℕ) (f : Matrix → Matrix) (hs ts : List Matrix) → 0 < n → Keeps f → All (IsStart n) hs → AllPairs (λ x y. x ≢ y) hs → Lands q f hs ts
+pub lands_apart : (n q : ℕ) (f : Matrix → Matrix) (hs ts : List Matrix) → 0 < n → Keeps f → All (IsStart n) hs → AllPairs (λ x y. x ≢ y) hs
+    → Lands q f hs ts
     → AllPairs (λ x y. x ≢ y) ts
 lands_apart n q f [] [] some keeps all apart none = apart
 lands_apart n q f [] (t ∷ ts) some keeps all apart x = elim x [ ]
 lands_apart n q f (h ∷ hs) [] some keeps all apart x = elim x [ ]
 lands_apart n q f (h ∷ hs) (t ∷ ts) some keeps all apart (more is over rest) =
     AllPairs-cons (λ x y. x ≢ y) t ts
-    (lands_other n q f t h hs ts some keeps (All-head (IsStart n) h hs all) over (All-tail (IsStart n) h hs all) (pairs_head (λ x y. x ≢ y) h hs apart) rest)
+    (lands_other n q f t h hs ts some keeps (All-head (IsStart n) h hs all) over (All-tail (IsStart n) h hs all)
+    (pairs_head (λ x y. x ≢ y) h hs apart) rest)
     (lands_apart n q f hs ts some keeps (All-tail (IsStart n) h hs all) (pairs_tail (λ x y. x ≢ y) h hs apart) rest)
 
 pub record Landed (q : ℕ) (f : Matrix → Matrix) (h : Matrix) (ts : List Matrix) : Type 0 where
@@ -88,7 +93,7 @@ landed q f h (k ∷ hs) (t ∷ ts) (more is over rest) (zero, l, same) = record 
 }
 landed q f h (k ∷ hs) (t ∷ ts) (more is over rest) (suc j, l, same) =
     let r = landed q f h hs ts rest (j, omega (arith, l), same) in
-    record { start = r.start; is = r.is; over = r.over; contains = later t ts r.start r.contains }
+    record { start = r.start; is = r.is; over = r.over; contains = Contains-append_right (t ∷ []) ts r.start r.contains }
 
 -- where f reaches each lattice of index n, it permutes the starts
 pub lands_onto : (n : ℕ) (f : Matrix → Matrix) (ts : List Matrix) → 0 < n → Keeps f

@@ -1,18 +1,13 @@
--- Star commutes with the sums over Merel's matrices: star M is M' star with the mirror M' of M, and mirrors of chains go from 0 to infinity
--- through the negative ends.
-use Rattle.std.proofs.Common.{◌≡◌, ◌≢◌, ◌+◌, ◌*◌, ◌<◌, ℕ, zero, suc, List, [], ◌∷◌, ◌++◌, length, All, refl, sym, ◌∙◌, ap, subst, arith}
-use Rattle.std.specs.Prelude.{ℤ, pos, negsuc, neg_ℤ, ◌+ℤ◌, ◌-ℤ◌, ◌*ℤ◌, ◌<ℤ◌, ◌≤ℤ◌, map}
-use Rattle.std.specs.List.{flat_map, range_with_len}
+-- Star commutes with Merel's sums. For m star = star m' with the mirror image m' = (a, -b; -c, d) of m; mirror images of chains lead from 0 to
+-- infinity through the negative ends, and mirror images of the lattices of one index are these lattices in another order.
+use Rattle.std.proofs.Common.{◌≡◌, ◌≢◌, ◌+◌, ◌*◌, ◌<◌, ℕ, List, [], ◌∷◌, length, All, refl, sym, ◌∙◌, ap, subst, arith}
+use Rattle.std.specs.Prelude.{ℤ, pos, negsuc, neg_ℤ, ◌+ℤ◌, ◌-ℤ◌, ◌*ℤ◌}
+use Rattle.std.specs.List.{flat_map}
 use Rattle.std.proofs.lemmas.Int.{ints}
-use Rattle.std.proofs.lemmas.List.{get_or-map, length-map}
-use Rattle.std.proofs.lemmas.List.FromFn.{get_or-range_with_len, length-map-range_with_len, length-range_with_len}
-use Rattle.std.proofs.lemmas.List.Elements.{All-nil, All-cons, All-head, All-tail, All-weaker}
-use Rattle.linear_algebra.specs.Vector.{Vector, ◌⊞◌, zeros, combination}
-use Rattle.linear_algebra.specs.Span.{row}
+use Rattle.std.proofs.lemmas.List.Elements.{All-head, All-tail, All-weaker}
+use Rattle.linear_algebra.specs.Vector.{Vector, ◌⊞◌}
 use Rattle.linear_algebra.specs.Coordinates.{unit}
-use Rattle.linear_algebra.proofs.Vectors.{plus-zeros, zeros-plus, plus_comm, plus_assoc, plus_middle, combination-combinations}
-use Rattle.linear_algebra.proofs.Congruence.{Congruent-combination}
-use Rattle.linear_algebra.proofs.Rows.{row-map}
+use Rattle.linear_algebra.proofs.Vectors.{plus-zeros, plus_assoc}
 use Rattle.p1_normal.specs.declared.matrix.Matrix.{Matrix}
 use Rattle.p1_normal.specs.Units.{gcd}
 use Rattle.p1_normal.specs.Points.{symbols}
@@ -20,7 +15,7 @@ use Rattle.p1_normal.specs.Actions.{matrix, product, determinant, image_number, 
 use Rattle.p1_normal.proofs.Numbers.{level_positive}
 use Rattle.p1_normal.proofs.Moves.{image_number-lt, invertible_star}
 use Rattle.p1_normal.proofs.LevelLaws.{image_number_product}
-use Rattle.manin_relations.specs.Relations.{relations, Congruent}
+use Rattle.manin_relations.specs.Relations.{Congruent}
 use Rattle.heilbronn_sets.specs.Merel.{IsMerel, merel_matrices, starts}
 use Rattle.heilbronn_sets.proofs.Members.{All-merel_matrices}
 use Rattle.heilbronn_chains.specs.Starts.{IsStart}
@@ -28,19 +23,21 @@ use Rattle.heilbronn_chains.specs.Chains.{IsChain, member}
 use Rattle.heilbronn_chains.proofs.Integers.{is_gap, pos_gap, neg_gap, gaps, gap_same}
 use Rattle.heilbronn_chains.proofs.Runs.{IsRun, chain_run, start_from_merel}
 use Rattle.heilbronn_chains.proofs.ChainLists.{All-starts, chains_permutation}
-use Rattle.hecke_columns.specs.Hecke.{symbol_sum, hecke_sum, merel_sum}
+use Rattle.hecke_columns.specs.Hecke.{symbol_sum, merel_sum}
 use Rattle.hecke_columns.proofs.Coprime.{all_invertible}
 use Rattle.hecke_columns.proofs.Sums.{hecke_sum-unit}
 use Rattle.star_map.specs.Star.{star}
 use Rattle.star_map.proofs.Stars.{star-plus, star-unit, star-zeros}
-use Rattle.merel_theorem.proofs.Classes.{Same, same_refl, same_from, same_sym, same_trans, same_plus, same_left, same_right, same_cancel, same_by}
-use Rattle.merel_theorem.proofs.Terms.{same_matrix, identity, by_identity}
-use Rattle.merel_theorem.proofs.Bases.{Over, Over_refl, Over_sym, Over_trans, Over-lattice, start_of, start_determinant}
-use Rattle.merel_theorem.proofs.Chains.{from_end, from_end-scaled, over_joins, sum-none, sum-more}
-use Rattle.merel_theorem.proofs.Totals.{total, total-none, total-more, total-permutation}
-use Rattle.merel_theorem.proofs.Lands.{Lands, none, more, Keeps, lands, lands_onto, ChainsFrom, chains_from}
-use Rattle.merel_theorem.proofs.Moved.{Good, good_invertible, good_nonzero, good_start}
-use Rattle.merel_theorem.proofs.Products.{arc, arc_is, arc_over, difference, total-joined, total-map, total_congruent, times_one, times_zero, not_zero}
+use Rattle.merel_theorem.proofs.Terms.{same_matrix}
+use Rattle.merel_theorem.proofs.Bases.{Over, Over_refl, Over_sym, Over_trans, Over-lattice, start_determinant}
+use Rattle.merel_theorem.proofs.Chains.{from_end, from_end-scaled, over_joins, sum-none, sum-more, not_zero}
+use Rattle.merel_theorem.proofs.Lands.{Lands, none, more, Keeps, lands, lands_onto, chains_from}
+use Rattle.merel_theorem.proofs.Moved.{HasIndex, index_invertible, index_nonzero, start_index}
+use Rattle.merel_theorem.proofs.Products.{times_one, times_zero}
+use Rattle.merel_theorem.proofs.Classes.{Same, difference, same_by, same_from, same_plus, same_right, same_sym, same_trans}
+use Rattle.merel_theorem.proofs.Combinations.{after_by, from_symbols, merel_by, star_by}
+use Rattle.merel_theorem.proofs.Arcs.{arc, arc_over, single_sum}
+use Rattle.merel_theorem.proofs.Totals.{total, total-joined, total-map, total-more, total-none, total-permutation, total_congruent}
 
 abbrev pub mirror : Matrix → Matrix
 mirror m = matrix m.a (neg_ℤ m.b) (neg_ℤ m.c) m.d
@@ -73,7 +70,12 @@ determinant-mirror m = law m.a m.b m.c m.d
     law a b c d = rw (is_gap a, is_gap b, is_gap c, is_gap d) (simp gaps (gap_same _ _ _ _ (omega arith)))
 
 over_mirror : {g m : Matrix} → Over g m → Over (mirror g) (mirror m)
-over_mirror {g} {m} h = record { factor = mirror h.factor; is = ap mirror h.is ∙ mirror-product g h.factor; one = determinant-mirror h.factor ∙ h.one }
+over_mirror {g} {m} h = record {
+  factor = mirror h.factor;
+  is = ap mirror h.is ∙ mirror-product g h.factor;
+  one = determinant-mirror h.factor
+      ∙ h.one;
+}
 
 keeps_mirror : Keeps mirror
 keeps_mirror g m over = subst (λ w. Over w m) (mirror_mirror g) (subst (Over (mirror (mirror g))) (mirror_mirror m) (over_mirror over))
@@ -111,31 +113,36 @@ opposite_end {p} N y g x z = ap (λ w. from_end {p = p} N y g w z) (first x) ∙
     second : (z : ℤ) → z ≡ negsuc 0 *ℤ neg_ℤ z
     second z = rw (is_gap z, neg_gap 0) (simp gaps (gap_same _ _ _ _ (omega arith)))
 
-run_mirrored : (p N y q : ℕ) (g m : Matrix) (ks : List Matrix) → 0 < p → y < length (symbols N) → Good N q g → IsMerel q m → IsRun q m ks → Over g (mirror m)
+run_mirrored : (p N y q : ℕ) (g m : Matrix) (ks : List Matrix) → 0 < p → y < length (symbols N) → HasIndex N q g → IsMerel q m → IsRun q m ks
+    → Over g (mirror m)
     → Same {p = p} N (total (mirrored N y) (m ∷ ks) ⊞ from_end N y g (pos 1) (pos 0)) (from_end N y g (neg_ℤ m.b) m.d)
-run_mirrored p N y q g m [] positive within good is run over =
-    same_by (ap (λ v. v ⊞ from_end N y g (pos 1) (pos 0)) (total-more (mirrored N y) m [] ∙ ap (λ v. mirrored {p = p} N y m ⊞ v) (total-none (mirrored N y))
+run_mirrored p N y q g m [] positive within index is run over =
+    same_by (ap (λ v. v ⊞ from_end N y g (pos 1) (pos 0))
+    (total-more (mirrored N y) m [] ∙ ap (λ v. mirrored {p = p} N y m ⊞ v) (total-none (mirrored N y))
     ∙ plus-zeros (mirrored N y m)) ∙ ap (λ v. mirrored {p = p} N y m ⊞ v) (sym last)) refl
-    (over_joins p N y g (mirror m) positive within (good_invertible N q g good) (good_nonzero N q g good) over)
+    (over_joins p N y g (mirror m) positive within (index_invertible N q g index) (index_nonzero N q g index) over)
   where
     none : (c : ℤ) → c ≡ pos 0 → neg_ℤ c ≡ pos 0
     none c e = omega (arith, ints, e)
 
     last : from_end {p = p} N y g m.a (neg_ℤ m.c) ≡ from_end N y g (pos 1) (pos 0)
-    last = ap (λ x. from_end {p = p} N y g x (neg_ℤ m.c)) (times_one m.a) ∙ ap (from_end {p = p} N y g (m.a *ℤ pos 1)) (none m.c run ∙ times_zero m.a)
+    last = ap (λ x. from_end {p = p} N y g x (neg_ℤ m.c)) (times_one m.a) ∙ ap (from_end {p = p} N y g (m.a *ℤ pos 1))
+        (none m.c run ∙ times_zero m.a)
         ∙ from_end-scaled N y g m.a (pos 1) (pos 0) (not_zero m.a m.b is.left is.upper)
-run_mirrored p N y q g m (l ∷ ks) positive within good is run over =
+run_mirrored p N y q g m (l ∷ ks) positive within index is run over =
     let last : Vector p = from_end N y g (pos 1) (pos 0) in
-    let next : Over g (mirror l) = Over_trans over (over_mirror (Over-lattice q m l good.positive is.determinant_is run.0.is_member.determinant_is run.0.lattice)) in
-    let rest = run_mirrored p N y q g l ks positive within good run.0.is_member run.1 next in
+    let next : Over g (mirror l) = Over_trans over
+    (over_mirror (Over-lattice q m l index.positive is.determinant_is run.0.is_member.determinant_is run.0.lattice)) in
+    let rest = run_mirrored p N y q g l ks positive within index run.0.is_member run.1 next in
     let link : from_end {p = p} N y g (neg_ℤ l.b) l.d ≡ from_end N y g m.a (neg_ℤ m.c) = opposite_end N y g l.b l.d
     ∙ ap (λ x. from_end {p = p} N y g x (neg_ℤ l.d)) run.0.upper ∙ ap (λ z. from_end {p = p} N y g m.a (neg_ℤ z)) run.0.lower in
-    same_trans positive (same_by (ap (λ v. v ⊞ last) (total-more (mirrored N y) m (l ∷ ks)) ∙ plus_assoc (mirrored N y m) (total (mirrored N y) (l ∷ ks)) last)
+    same_trans positive (same_by (ap (λ v. v ⊞ last) (total-more (mirrored N y) m (l ∷ ks)) ∙ plus_assoc (mirrored N y m)
+    (total (mirrored N y) (l ∷ ks)) last)
     (ap (λ v. mirrored N y m ⊞ v) (sym link)) (same_right positive (mirrored N y m) rest))
-    (over_joins p N y g (mirror m) positive within (good_invertible N q g good) (good_nonzero N q g good) over)
+    (over_joins p N y g (mirror m) positive within (index_invertible N q g index) (index_nonzero N q g index) over)
 
-good_mirror : (N q : ℕ) (g : Matrix) → Good N q g → Good N q (mirror g)
-good_mirror N q g h = record { determinant_is = determinant-mirror g ∙ h.determinant_is; positive = h.positive; coprime = h.coprime }
+mirror_index : (N q : ℕ) (g : Matrix) → HasIndex N q g → HasIndex N q (mirror g)
+mirror_index N q g h = record { determinant_is = determinant-mirror g ∙ h.determinant_is; positive = h.positive; coprime = h.coprime }
 
 chain_mirrored : (p N y q : ℕ) (ms : List Matrix) → 0 < p → y < length (symbols N) → 0 < q → gcd q N ≡ 1 → IsChain q ms
     → Same {p = p} N (total (mirrored N y) ms) (arc N y (mirror (member ms 0)))
@@ -143,10 +150,10 @@ unfolding arc
 chain_mirrored p N y q ms positive within some coprime chain =
     let r = chain_run q ms chain in
     let h : Matrix = r.first in
-    let good = good_mirror N q h (good_start N q h some coprime (start_from_merel q h r.is_member r.begins)) in
+    let index = mirror_index N q h (start_index N q h some coprime (start_from_merel q h r.is_member r.begins)) in
     subst (λ ws. Same {p = p} N (total (mirrored N y) ws) (arc N y (mirror (member ws 0)))) (sym r.is)
     (difference positive (total (mirrored N y) (h ∷ r.rest)) (from_end N y (mirror h) (pos 1) (pos 0)) (from_end N y (mirror h) (pos 0) (pos 1))
-    (same_trans positive (run_mirrored p N y q (mirror h) h r.rest positive within good r.is_member r.run (Over_refl (mirror h)))
+    (same_trans positive (run_mirrored p N y q (mirror h) h r.rest positive within index r.is_member r.run (Over_refl (mirror h)))
     (same_from positive (origin h r.begins (not_zero h.d h.c r.is_member.right r.is_member.lower)))))
   where
     none : (b : ℤ) → b ≡ pos 0 → neg_ℤ b ≡ pos 0
@@ -158,15 +165,18 @@ chain_mirrored p N y q ms positive within some coprime chain =
         ∙ from_end-scaled N y (mirror h) h.d (pos 0) (pos 1) apart
 
 -- ---- mirrors permute the lattices
-mirrored_landed : (p N y q : ℕ) (hs ts : List Matrix) → 0 < p → y < length (symbols N) → 0 < q → gcd q N ≡ 1 → All (IsStart q) hs → Lands q mirror hs ts
+mirrored_landed : (p N y q : ℕ) (hs ts : List Matrix) → 0 < p → y < length (symbols N) → 0 < q → gcd q N ≡ 1 → All (IsStart q) hs
+    → Lands q mirror hs ts
     → Same {p = p} N (total (λ h. arc N y (mirror h)) hs) (total (arc N y) ts)
-mirrored_landed p N y q [] [] positive within some coprime all none = same_from positive (total-none (λ h. arc N y (mirror h)) ∙ sym (total-none (arc N y)))
+mirrored_landed p N y q [] [] positive within some coprime all none = same_from positive
+    (total-none (λ h. arc N y (mirror h)) ∙ sym (total-none (arc N y)))
 mirrored_landed p N y q [] (t ∷ ts) positive within some coprime all x = elim x [ ]
 mirrored_landed p N y q (h ∷ hs) [] positive within some coprime all x = elim x [ ]
 mirrored_landed p N y q (h ∷ hs) (t ∷ ts) positive within some coprime all (more is over rest) =
     same_by (total-more (λ h. arc N y (mirror h)) h hs) (total-more (arc N y) t ts)
-    (same_plus positive (arc_over p N y q (mirror h) t positive within (good_mirror N q h (good_start N q h some coprime (All-head (IsStart q) h hs all)))
-    (good_start N q t some coprime is) (Over_sym over))
+    (same_plus positive (arc_over p N y q (mirror h) t positive within
+    (mirror_index N q h (start_index N q h some coprime (All-head (IsStart q) h hs all)))
+    (start_index N q t some coprime is) (Over_sym over))
     (mirrored_landed p N y q hs ts positive within some coprime (All-tail (IsStart q) h hs all) rest))
 
 mirrored_arcs : (p N y q : ℕ) → 0 < p → y < length (symbols N) → 0 < q → gcd q N ≡ 1
@@ -175,38 +185,29 @@ mirrored_arcs p N y q positive within some coprime =
     let (ts, landing) = lands q q mirror (starts q) some (λ h is. determinant-mirror h ∙ start_determinant q h some is) (All-starts q) in
     same_trans positive (mirrored_landed p N y q (starts q) ts positive within some coprime (All-starts q) landing)
     (same_from positive (total-permutation (arc N y) ts (starts q) (lands_onto q mirror ts some keeps_mirror
-    (λ x is. (mirror x, determinant-mirror x ∙ start_determinant q x some is, λ h over. subst (Over (mirror h)) (mirror_mirror x) (over_mirror over))) landing)))
-
--- ---- the sum over Merel's set and over its mirror
-sum_is_total : (p N y : ℕ) (ms : List Matrix) → symbol_sum {p = p} N ms y ≡ total (λ m. unit (image_number N y m)) ms
-sum_is_total p N y [] = sum-none p N y ∙ sym (total-none (λ m. unit (image_number N y m)))
-sum_is_total p N y (m ∷ ms) = sum-more p N m ms y ∙ ap (λ v. unit (image_number N y m) ⊞ v) (sum_is_total p N y ms)
-    ∙ sym (total-more (λ m. unit (image_number N y m)) m ms)
+    (λ x is. (
+      mirror x,
+      determinant-mirror x ∙ start_determinant q x some is,
+      λ h over. subst (Over (mirror h)) (mirror_mirror x)
+          (over_mirror over),
+    )) landing)))
 
 mirror_sum : (p N y n : ℕ) → 0 < p → y < length (symbols N) → 0 < n → gcd n N ≡ 1
     → Same {p = p} N (total (mirrored N y) (merel_matrices n)) (symbol_sum N (merel_matrices n) y)
 mirror_sum p N y n positive within some coprime =
     let c = chains_from n (starts n) some (All-starts n) in
     let order = chains_permutation n c.chains some (record { chains = c.are; begins = c.begins }) in
-    let plain : Matrix → Vector p = λ m. unit (image_number N y m) in
     let there : Same {p = p} N (total (mirrored N y) (merel_matrices n)) (total (arc N y) (starts n)) =
-    same_trans positive (same_from positive (sym (total-permutation (mirrored N y) (flat_map (λ ms. ms) c.chains) (merel_matrices n) order) ∙ total-joined (mirrored N y) c.chains))
+    same_trans positive (same_from positive (sym (total-permutation (mirrored N y) (flat_map (λ ms. ms) c.chains) (merel_matrices n) order)
+    ∙ total-joined (mirrored N y) c.chains))
     (same_trans positive (total_congruent positive (IsChain n) (total (mirrored N y)) (λ ms. arc N y (mirror (member ms 0))) c.chains c.are
     (λ ms chain. chain_mirrored p N y n ms positive within some coprime chain))
-    (same_trans positive (same_from positive (sym (total-map (λ h. arc N y (mirror h)) (λ ms. member ms 0) c.chains) ∙ ap (total (λ h. arc N y (mirror h))) c.begins))
+    (same_trans positive (same_from positive
+    (sym (total-map (λ h. arc N y (mirror h)) (λ ms. member ms 0) c.chains) ∙ ap (total (λ h. arc N y (mirror h))) c.begins))
     (mirrored_arcs p N y n positive within some coprime))) in
     let here : Same {p = p} N (symbol_sum N (merel_matrices n) y) (total (arc N y) (starts n)) =
-    same_trans positive (same_from positive (sum_is_total p N y (merel_matrices n)
-    ∙ sym (total-permutation plain (flat_map (λ ms. ms) c.chains) (merel_matrices n) order) ∙ total-joined plain c.chains))
-    (same_trans positive (total_congruent positive (IsChain n) (total plain) (λ ms. arc N y (member ms 0)) c.chains c.are
-    (λ ms chain. same_by (sym (sum_is_total p N y ms)) refl (subst (λ j. Same {p = p} N (symbol_sum N ms j) (arc N y (member ms 0))) (by_identity N y within)
-    (arc_is p N y n (member ms 0) (member ms 0) ms positive within (good_start N n (member ms 0) some coprime (first_start ms chain)) chain refl
-    (Over_refl (member ms 0))))))
-    (same_from positive (sym (total-map (arc N y) (λ ms. member ms 0) c.chains) ∙ ap (total (arc N y)) c.begins))) in
+    same_by (sym (hecke_sum-unit N (merel_matrices n) y within)) refl (single_sum p N n y positive some coprime within) in
     same_trans positive there (same_sym positive here)
-  where
-    first_start : (ms : List Matrix) → IsChain n ms → IsStart n (member ms 0)
-    first_start ms chain = start_from_merel n (member ms 0) (chain.members 0 (matrix (pos 0) (pos 0) (pos 0) (pos 0)) chain.some) chain.first
 
 -- ---- star of the sum
 star_sum : (p N k : ℕ) (ms : List Matrix) → k < length (symbols N) → All (IsInvertible N) ms
@@ -232,36 +233,9 @@ star_symbol p N n k positive some coprime within =
     (ap (merel_sum N n) (star-unit N k within) ∙ hecke_sum-unit N (merel_matrices n) y y_within)
     (mirror_sum p N y n positive y_within some coprime)
 
--- for all combinations
-abbrev stars_of_symbols : {p : ℕ} → ℕ → List (Vector p)
-stars_of_symbols N = map (λ k. unit (image_number N k matrix_star)) (range_with_len 0 (length (symbols N)))
-
-abbrev sums_of_symbols : {p : ℕ} → ℕ → ℕ → List (Vector p)
-sums_of_symbols N n = map (symbol_sum N (merel_matrices n)) (range_with_len 0 (length (symbols N)))
-
-row_of : {p : ℕ} (N j : ℕ) (f : Vector p → Vector p) (g : ℕ → Vector p) → j < length (symbols N)
-    → row (map f (map g (range_with_len 0 (length (symbols N))))) j ≡ f (g j)
-row_of N j f g l =
-    row-map f (map g (range_with_len 0 (length (symbols N)))) j zeros (omega (arith, l, length-map-range_with_len g 0 (length (symbols N))))
-    ∙ ap f (get_or-map g (range_with_len 0 (length (symbols N))) j 0 zeros (omega (arith, l, length-range_with_len 0 (length (symbols N))))
-    ∙ ap g (get_or-range_with_len 0 (length (symbols N)) j 0 l ∙ plain j))
-  where
-    plain : (j : ℕ) → 0 + j ≡ j
-    plain j = omega arith
-
-length_of : {p : ℕ} (N : ℕ) (f : Vector p → Vector p) (g : ℕ → Vector p) → length (map f (map g (range_with_len 0 (length (symbols N))))) ≡ length (symbols N)
-length_of N f g = length-map (map g (range_with_len 0 (length (symbols N)))) f ∙ length-map-range_with_len g 0 (length (symbols N))
-
+-- so of each combination
 pub star_commutes : (p N n : ℕ) (x : Vector p) → 0 < p → 0 < n → gcd n N ≡ 1 → Congruent N (star N (merel_sum N n x)) (merel_sum N n (star N x))
 star_commutes p N n x positive some coprime =
-    let stars : List (Vector p) = map (star N) (sums_of_symbols N n) in
-    let sums : List (Vector p) = map (merel_sum N n) (stars_of_symbols N) in
-    subst (λ v. Congruent N v (merel_sum N n (star N x))) (combination-combinations x (sums_of_symbols N n) (stars_of_symbols N))
-    (subst (Congruent N (combination x stars)) (combination-combinations x (stars_of_symbols N) (sums_of_symbols N n))
-    (Congruent-combination positive (relations {p = p} N) x stars sums
-    (length_of N (star N) (symbol_sum N (merel_matrices n)) ∙ sym (length_of N (merel_sum N n) (λ k. unit (image_number N k matrix_star))))
-    (λ j l.
-    let within : j < length (symbols N) = omega (arith, l, length_of N (star {p = p} N) (symbol_sum N (merel_matrices n))) in
-    (same_by (row_of N j (star N) (symbol_sum N (merel_matrices n)) within ∙ ap (star N) (sym (hecke_sum-unit N (merel_matrices n) j within)))
-    (row_of N j (merel_sum N n) (λ k. unit (image_number N k matrix_star)) within ∙ ap (merel_sum N n) (sym (star-unit N j within)))
-    (star_symbol p N n j positive some coprime within)).congruent)))
+    from_symbols p N (λ v. star N (merel_sum N n v)) (λ v. merel_sum N n (star N v)) positive
+    (after_by N (star N) (merel_sum N n) (star_by N) (merel_by N n)) (after_by N (merel_sum N n) (star N) (merel_by N n) (star_by N))
+    (λ k within. star_symbol p N n k positive some coprime within) x

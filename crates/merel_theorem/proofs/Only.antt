@@ -1,31 +1,26 @@
--- A lattice of index m n, with m and n coprime, lies in exactly one lattice of index m; one of index m is there for all m and n.
-use Rattle.std.proofs.Common.{◌≡◌, ◌≢◌, ◌+◌, ◌*◌, ◌/◌, ◌%◌, ◌<◌, ℕ, zero, suc, Bool, List, [], ◌∷◌, length, All, refl, sym, ◌∙◌, ap, subst, inl, inr, arith}
+-- A lattice of index m n lies in a lattice of index m (`above`), and where m and n are coprime in one alone (`one_divides`).
+use Rattle.std.proofs.Common.{◌≡◌, ◌≢◌, ◌+◌, ◌*◌, ◌/◌, ◌%◌, ◌<◌, ℕ, Bool, length, sym, ◌∙◌, ap, subst, arith}
 use Rattle.std.specs.Prelude.{ℤ, pos, neg_ℤ, ◌+ℤ◌, ◌-ℤ◌, ◌*ℤ◌, filter}
 use Rattle.std.specs.Int.{◌∣◌}
-use Rattle.std.specs.List.{Contains, AllPairs}
 use Rattle.std.proofs.Math.Nat.{div-add-mod, mul-div_cancel', mul-dvd-mul_left, dvd_of_mul-dvd-mul_left, eq-one_of_dvd-one, dvd_antisymm, pos_of_dvd_of_pos}
 use Rattle.std.proofs.lemmas.Int.{ints}
-use Rattle.std.proofs.lemmas.List.Elements.{All-nil, All-cons, All-contains}
-use Rattle.std.proofs.lemmas.List.Kept.{AllPairs-cons, AllPairs-filter}
-use Rattle.std.proofs.lemmas.List.Sorted.{length_permutation}
+use Rattle.std.proofs.lemmas.List.Kept.{AllPairs-filter}
 use Rattle.p1_normal.specs.declared.matrix.Matrix.{Matrix}
-use Rattle.p1_normal.specs.Units.{gcd, IsUnit}
+use Rattle.p1_normal.specs.Units.{gcd}
 use Rattle.p1_normal.specs.Actions.{matrix, product, determinant}
 use Rattle.p1_normal.proofs.Units.{IsGcd-gcd, IsUnit-from_gcd}
 use Rattle.heilbronn_sets.specs.Merel.{starts}
 use Rattle.heilbronn_chains.specs.Lattice.{IsMultiple, InLattice}
 use Rattle.heilbronn_chains.specs.Starts.{IsStart}
-use Rattle.heilbronn_chains.proofs.Integers.{is_gap, pos_gap, neg_gap, gaps, gap_same}
-use Rattle.heilbronn_chains.proofs.ColumnSteps.{multiple_add, multiple_times, multiple_neg}
+use Rattle.heilbronn_chains.proofs.Integers.{is_gap, pos_gap, gaps, gap_same}
 use Rattle.heilbronn_chains.proofs.Hermite.{start_entries, some_factor, cancelled}
-use Rattle.heilbronn_chains.proofs.Order.{contains_cases}
 use Rattle.heilbronn_chains.proofs.ChainLists.{Contains-starts}
 use Rattle.merel_theorem.proofs.Terms.{same_matrix}
-use Rattle.merel_theorem.proofs.Bases.{determinant-product, product_assoc, adjoint, times_comm, one_times, Over, Over_sym, factored, start_of, start_determinant, one_start}
+use Rattle.merel_theorem.proofs.Bases.{product_assoc, adjoint, Over, factored, start_of, start_determinant, one_start}
 use Rattle.merel_theorem.proofs.Factors.{Divides, Divides-over, divides, divides_from_test, test_from_divides}
-use Rattle.merel_theorem.proofs.Totals.{same_members}
 use Rattle.merel_theorem.proofs.Lands.{starts_apart}
-use Rattle.merel_theorem.proofs.Counts.{contains_filter, filtered_passes, filtered_start, cofactor_determinant}
+use Rattle.merel_theorem.proofs.Counts.{filtered_start, cofactor_determinant}
+use Rattle.merel_theorem.proofs.Members.{contains_filter, filtered_passes, one_member}
 use Rattle.merel_theorem.proofs.Moved.{positive_times}
 
 -- ---- coprime numbers
@@ -103,8 +98,10 @@ column_in m n k x z s r some coprime det e f = record {
     out d b x z n = rw (is_gap d, is_gap b, is_gap x, is_gap z, is_gap n) (simp gaps (gap_same _ _ _ _ (omega arith)))
 
 -- (h w) adj w = det w times h
-scaled_back : (h w : Matrix) → product (product h w) (adjoint w) ≡ matrix (h.a *ℤ determinant w) (h.b *ℤ determinant w) (h.c *ℤ determinant w) (h.d *ℤ determinant w)
-scaled_back h w = same_matrix (first h.a h.b w.a w.b w.c w.d) (second h.a h.b w.a w.b w.c w.d) (first h.c h.d w.a w.b w.c w.d) (second h.c h.d w.a w.b w.c w.d)
+scaled_back : (h w : Matrix) → product (product h w) (adjoint w) ≡ matrix (h.a *ℤ determinant w) (h.b *ℤ determinant w) (h.c *ℤ determinant w)
+    (h.d *ℤ determinant w)
+scaled_back h w = same_matrix (first h.a h.b w.a w.b w.c w.d) (second h.a h.b w.a w.b w.c w.d) (first h.c h.d w.a w.b w.c w.d)
+    (second h.c h.d w.a w.b w.c w.d)
   where
     first : (x z a b c d : ℤ) → (x *ℤ a +ℤ z *ℤ c) *ℤ d +ℤ (x *ℤ b +ℤ z *ℤ d) *ℤ neg_ℤ c ≡ x *ℤ (a *ℤ d -ℤ b *ℤ c)
     first x z a b c d = rw (is_gap a, is_gap b, is_gap c, is_gap d, is_gap x, is_gap z) (simp gaps (gap_same _ _ _ _ (omega arith)))
@@ -123,7 +120,8 @@ one_above m n h k t some coprime h_det k_det t_det d e =
     sym (product_assoc k e.cofactor (adjoint w)) ∙ ap (λ x. product x (adjoint w)) (sym e.is ∙ d.is) ∙ scaled_back h w in
     let f : h ≡ product k _ = factored m k h some k_det
     (column_in m n k h.a h.c u.a u.c some coprime k_det (ap (λ x. x.a) is ∙ ap (λ z. h.a *ℤ z) w_det) (ap (λ x. x.c) is ∙ ap (λ z. h.c *ℤ z) w_det))
-    (column_in m n k h.b h.d u.b u.d some coprime k_det (ap (λ x. x.b) is ∙ ap (λ z. h.b *ℤ z) w_det) (ap (λ x. x.d) is ∙ ap (λ z. h.d *ℤ z) w_det)) in
+    (column_in m n k h.b h.d u.b u.d some coprime k_det (ap (λ x. x.b) is ∙ ap (λ z. h.b *ℤ z) w_det)
+    (ap (λ x. x.d) is ∙ ap (λ z. h.d *ℤ z) w_det)) in
     record { factor = _; is = f; one = cofactor_determinant m 1 k _ h some k_det (h_det ∙ ap pos (plain m)) f }
   where
     plain : (m : ℕ) → m ≡ m * 1
@@ -154,7 +152,8 @@ split a m some =
       left_is = e;
       right_is = f;
       coprime = once (gcd a m) c positive
-          (g.2 (gcd a m * c) (subst (λ x. gcd a m * c ∣ x) e (mul-dvd-mul_left c (gcd a m) i.0)) (subst (λ x. gcd a m * c ∣ x) f (mul-dvd-mul_left c (gcd a m) i.1)));
+          (g.2 (gcd a m * c) (subst (λ x. gcd a m * c ∣ x) e (mul-dvd-mul_left c (gcd a m) i.0))
+          (subst (λ x. gcd a m * c ∣ x) f (mul-dvd-mul_left c (gcd a m) i.1)));
     }
   where
     once : (g c : ℕ) → 0 < g → g * c ∣ g → c ≡ 1
@@ -227,17 +226,6 @@ above m n t some other is =
     let e = start_entries (m * n) t (positive_times m n some other) is in
     subst (Above m) (sym e.is) (above_entries m n e.a e.c e.d some e.diagonal)
 
--- ---- so exactly one
-pub one_member : (xs : List Matrix) (x : Matrix) → AllPairs (λ x y. x ≢ y) xs → Contains xs x → ((y : Matrix) → Contains xs y → y ≡ x) → length xs ≡ 1
-one_member xs x apart inside all =
-    sym (length_permutation xs (x ∷ []) (same_members xs (x ∷ []) apart
-    (AllPairs-cons (λ x y. x ≢ y) x [] (All-nil (λ y. x ≢ y)) (λ i j d l lower. absurd (omega (arith, l))))
-    (λ y here. (0, omega arith, sym (all y here)))
-    (λ y here. elim (contains_cases x [] y here) [
-      | inl e ↦ subst (Contains xs) e inside
-      | inr (j, l, same) ↦ absurd (omega (arith, l))
-    ])))
-
 pub one_divides : (m n : ℕ) (t : Matrix) → 0 < m → 0 < n → gcd n m ≡ 1 → IsStart (m * n) t → length (filter (λ h. divides m h t) (starts m)) ≡ 1
 one_divides m n t some other coprime is =
     let det = start_determinant (m * n) t (positive_times m n some other) is in
@@ -250,4 +238,5 @@ one_divides m n t some other coprime is =
     let y_is = filtered_start m test y inside in
     let y_det = start_determinant m y some y_is in
     one_start m y a.start some y_is a.is
-    (one_above m n a.start y t some coprime a_det y_det det a.divides (divides_from_test m y t some y_det (filtered_passes test (starts m) y inside))))
+    (one_above m n a.start y t some coprime a_det y_det det a.divides
+    (divides_from_test m y t some y_det (filtered_passes test (starts m) y inside))))

@@ -1,4 +1,5 @@
--- The lattices of prime index q that hold one of index q n: all q + 1 of them where q divides its matrix, and else one alone.
+-- In how many lattices of prime index q a lattice of index q n lies: in all q + 1 of them where q divides its matrix, and else in one alone
+-- (`prime_count`).
 use Rattle.std.proofs.Common.{◌≡◌, ◌≢◌, ◌⊎◌, ◌+◌, ◌-◌, ◌*◌, ◌%◌, ◌<◌, ◌≤◌, ℕ, zero, suc, Bool, true, cond, nat_eq, List, [], ◌∷◌, length, All, refl, sym, ◌∙◌, ap, subst, inl, inr, arith, eq-eqb, eqb-true}
 use Rattle.std.specs.Prelude.{ℤ, pos, ◌+ℤ◌, ◌-ℤ◌, ◌*ℤ◌, filter}
 use Rattle.std.specs.List.{range_with_len, sum_by}
@@ -25,11 +26,13 @@ use Rattle.heilbronn_chains.proofs.Divisors.{length-starts}
 use Rattle.merel_theorem.proofs.Terms.{same_matrix}
 use Rattle.merel_theorem.proofs.Bases.{start_determinant}
 use Rattle.merel_theorem.proofs.Lands.{starts_apart}
-use Rattle.merel_theorem.proofs.Moved.{positive_times}
 use Rattle.merel_theorem.proofs.Factors.{Divides, divides, divides_from_test, test_from_divides}
-use Rattle.merel_theorem.proofs.Counts.{contains_filter, filtered_passes, filtered_start}
-use Rattle.merel_theorem.proofs.Only.{multiple_without, above, one_member}
+use Rattle.merel_theorem.proofs.Counts.{filtered_start}
+use Rattle.merel_theorem.proofs.Only.{multiple_without, above}
 use Rattle.merel_theorem.proofs.Scaled.{scalar, scalar_determinant, all_divide}
+use Rattle.merel_theorem.proofs.Members.{contains_filter, filtered_passes, one_member}
+use Rattle.merel_theorem.proofs.Classes.{difference}
+use Rattle.merel_theorem.proofs.Moved.{positive_times}
 
 -- ---- there are q + 1 starts of determinant q
 abbrev divides_number : ℕ → ℕ → Bool
@@ -43,7 +46,8 @@ upper_divisors q prime zero d more e =
     (λ passes. sum_by-cons (λ d. d) d [] ∙ omega (arith, same))
     (λ fails. absurd (false≢true (sym fails ∙ eq-eqb (q % d) 0 (ap (λ x. q % x) same ∙ mod_self q))))
 upper_divisors q prime (suc k) d more e =
-    cond_both (divides_number q d) (d ∷ filter (divides_number q) (range_with_len (d + 1) (suc k))) (filter (divides_number q) (range_with_len (d + 1) (suc k)))
+    cond_both (divides_number q d) (d ∷ filter (divides_number q) (range_with_len (d + 1) (suc k)))
+    (filter (divides_number q) (range_with_len (d + 1) (suc k)))
     (λ ds. sum_by (λ d. d) ds ≡ q)
     (λ passes. elim (prime.only_trivial d (eqb-true (q % d) 0 passes)) [
       | inl one ↦ absurd (omega (arith, one, more))
@@ -55,7 +59,8 @@ divisors_from : (q k : ℕ) → IsPrime q → 2 + k ≡ q → sum_by (λ d. d) (
 divisors_from q k prime e =
     cond_both (divides_number q 1) (1 ∷ filter (divides_number q) (range_with_len 2 (suc k))) (filter (divides_number q) (range_with_len 2 (suc k)))
     (λ ds. sum_by (λ d. d) ds ≡ 1 + q)
-    (λ passes. sum_by-cons (λ d. d) 1 (filter (divides_number q) (range_with_len 2 (suc k))) ∙ ap (λ s. 1 + s) (upper_divisors q prime k 2 (omega arith) e))
+    (λ passes. sum_by-cons (λ d. d) 1 (filter (divides_number q) (range_with_len 2 (suc k))) ∙ ap (λ s. 1 + s)
+    (upper_divisors q prime k 2 (omega arith) e))
     (λ fails. absurd (false≢true (sym fails ∙ eq-eqb (q % 1) 0 (by_one q))))
   where
     by_one : (q : ℕ) → q % 1 ≡ 0
@@ -153,7 +158,8 @@ from_two q c e x z prime l m f g =
       product = spread f.quotient g.quotient (pos q) ∙ ap (λ w. w -ℤ (g.quotient *ℤ pos q)) f.product ∙ ap (λ w. (z -ℤ pos c *ℤ x) -ℤ w) g.product
           ∙ ap (λ n. (z -ℤ pos c *ℤ x) -ℤ (z -ℤ n *ℤ x)) (sym sum) ∙ law z (pos c) (pos k) x;
     } in
-    from_first q c x z (multiple_without q k x (omega (arith, prime.above_one)) (coprime_below q k prime (omega (arith, l)) (omega (arith, m))) difference) f
+    from_first q c x z (multiple_without q k x (omega (arith, prime.above_one))
+    (coprime_below q k prime (omega (arith, l)) (omega (arith, m))) difference) f
   where
     spread : (u v q : ℤ) → (u -ℤ v) *ℤ q ≡ (u *ℤ q) -ℤ (v *ℤ q)
     spread u v q = rw (is_gap u, is_gap v, is_gap q) (simp gaps (gap_same _ _ _ _ (omega arith)))
@@ -228,7 +234,8 @@ prime_count q n t prime other is =
     (λ fails.
     let a = above q n t some other is in
     one_member (filter test (starts q)) a.start (AllPairs-filter (λ x y. x ≢ y) test (starts q) (starts_apart q))
-    (contains_filter test (starts q) a.start ((Contains-starts q a.start some).1 a.is) (test_from_divides q a.start t (start_determinant q a.start some a.is) a.divides))
+    (contains_filter test (starts q) a.start ((Contains-starts q a.start some).1 a.is)
+    (test_from_divides q a.start t (start_determinant q a.start some a.is) a.divides))
     (λ y inside.
     let y_is = filtered_start q test y inside in
     elim (two_divide q y a.start t prime y_is a.is

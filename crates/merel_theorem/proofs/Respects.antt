@@ -1,45 +1,39 @@
--- Merel's theorem: the sums over Merel's set respect the relations.
-use Rattle.std.proofs.Common.{◌≡◌, ◌+◌, ◌-◌, ◌*◌, ◌<◌, ℕ, zero, suc, List, [], ◌∷◌, length, refl, sym, ◌∙◌, ap, subst, inl, inr, arith}
+-- Merel's theorem: around a relation the ends come back to where they began, so the differences of Merel's sums add up to 0.
+use Rattle.std.proofs.Common.{◌≡◌, ◌+◌, ◌-◌, ◌*◌, ◌<◌, ℕ, List, length, refl, sym, ◌∙◌, ap, subst, inl, inr, arith}
 use Rattle.std.specs.Prelude.{ℤ, pos, negsuc, ◌*ℤ◌}
 use Rattle.std.proofs.lemmas.Int.{ints}
 use Rattle.std.proofs.lemmas.Bool.{cases_lt}
-use Rattle.linear_algebra.specs.Residue.{residue}
-use Rattle.linear_algebra.specs.Vector.{Vector, ◌⊞◌, ◌⊡◌, zeros, tail, combination, minus}
-use Rattle.linear_algebra.specs.Span.{Each, none, more, row, InSpan}
+use Rattle.linear_algebra.specs.Vector.{Vector, ◌⊞◌, zeros}
 use Rattle.linear_algebra.specs.Coordinates.{unit}
-use Rattle.linear_algebra.proofs.Vectors.{plus-zeros, zeros-plus, plus_comm, plus_assoc, plus_middle}
-use Rattle.linear_algebra.proofs.Spans.{Each-rows, InSpan-plus, InSpan-scale, InSpan-zeros}
-use Rattle.linear_algebra.proofs.Differences.{minus-times}
-use Rattle.linear_algebra.proofs.Congruence.{InSpan_from_Congruent}
+use Rattle.linear_algebra.proofs.Vectors.{zeros-plus, plus_comm, plus_assoc, plus_middle}
 use Rattle.p1_normal.specs.declared.matrix.Matrix.{Matrix}
 use Rattle.p1_normal.specs.Units.{gcd}
 use Rattle.p1_normal.specs.Points.{symbols}
-use Rattle.p1_normal.specs.Actions.{product, determinant, image_number, matrix_s, matrix_t}
+use Rattle.p1_normal.specs.Actions.{product, image_number, matrix_s, matrix_t}
 use Rattle.p1_normal.proofs.Units.{gcd_from_IsUnit, IsUnit-one}
-use Rattle.manin_relations.specs.Relations.{relation, relations, Congruent}
-use Rattle.manin_relations.proofs.RelationLaws.{length-relations, row-relations, relation_pair, relation_triple}
+use Rattle.manin_relations.specs.Relations.{relation, Congruent}
+use Rattle.manin_relations.proofs.RelationLaws.{relation_pair, relation_triple}
 use Rattle.heilbronn_sets.specs.Merel.{merel_matrices, starts}
 use Rattle.hecke_columns.specs.Hecke.{symbol_sum, hecke_sum, merel_sum}
-use Rattle.hecke_columns.proofs.Sums.{hecke_sum-plus, hecke_sum-scale, hecke_sum-zeros, hecke_sum-unit}
-use Rattle.merel_theorem.proofs.Classes.{Same, same_refl, same_from, same_sym, same_trans, same_plus, same_left, same_right, same_cancel, same_by}
+use Rattle.hecke_columns.proofs.Sums.{hecke_sum-plus, hecke_sum-unit}
 use Rattle.merel_theorem.proofs.Terms.{identity, by_s, s-lt, moved-lt, moved, by_identity}
 use Rattle.merel_theorem.proofs.Chains.{from_end, from_end-scaled}
-use Rattle.merel_theorem.proofs.Totals.{total}
-use Rattle.merel_theorem.proofs.Moved.{Good, ends, merel_moved}
-
-pub total-same : {p : ℕ} {X : Type 0} (f g : X → Vector p) (xs : List X) → ((x : X) → f x ≡ g x) → total f xs ≡ total g xs
-total-same f g xs h = ap (λ f. total f xs) (λ i x. h x i)
+use Rattle.merel_theorem.proofs.Moved.{HasIndex, ends, merel_moved}
+use Rattle.hecke_ops.proofs.Sums.{Congruent-hecke_sum}
+use Rattle.merel_theorem.proofs.Classes.{Same, same_by, same_cancel, same_plus}
+use Rattle.merel_theorem.proofs.Totals.{total-same}
 
 -- opposite pairs name one end
 pub ends-opposite : {p : ℕ} (N k n : ℕ) (e : Matrix) (x z : ℤ) → ends {p = p} N k n e (negsuc 0 *ℤ x) (negsuc 0 *ℤ z) ≡ ends N k n e x z
-ends-opposite {p} N k n e x z = total-same (λ t. from_end {p = p} N k (product e t) (negsuc 0 *ℤ x) (negsuc 0 *ℤ z)) (λ t. from_end N k (product e t) x z) (starts n)
+ends-opposite {p} N k n e x z = total-same (λ t. from_end {p = p} N k (product e t) (negsuc 0 *ℤ x) (negsuc 0 *ℤ z))
+    (λ t. from_end N k (product e t) x z) (starts n)
     (λ t. from_end-scaled N k (product e t) (negsuc 0) x z (λ e. apart e))
   where
     apart : negsuc 0 ≡ pos 0 → ⊥
     apart e = omega (arith, ints, e)
 
-pub good_identity : (N : ℕ) → Good N 1 identity
-good_identity N = record { determinant_is = refl; positive = omega arith; coprime = gcd_from_IsUnit N 1 (IsUnit-one N) }
+pub identity_index : (N : ℕ) → HasIndex N 1 identity
+identity_index N = record { determinant_is = refl; positive = omega arith; coprime = gcd_from_IsUnit N 1 (IsUnit-one N) }
 
 -- the sums of x and x S cancel
 pub merel_pair : (p N n k : ℕ) → 0 < p → 0 < n → gcd n N ≡ 1 → k < length (symbols N)
@@ -48,11 +42,12 @@ merel_pair p N n k positive some coprime within =
     let L : List Matrix = merel_matrices n in
     let infinity : Vector p = ends N k n identity (pos 1) (pos 0) in
     let origin : Vector p = ends N k n identity (pos 0) (pos 1) in
-    let first : Same {p = p} N (symbol_sum N L k ⊞ infinity) origin = subst (λ j. Same {p = p} N (symbol_sum N L j ⊞ infinity) origin) (by_identity N k within)
-    (merel_moved p N k n 1 identity identity positive some within coprime (good_identity N) refl) in
+    let first : Same {p = p} N (symbol_sum N L k ⊞ infinity) origin = subst (λ j. Same {p = p} N (symbol_sum N L j ⊞ infinity) origin)
+    (by_identity N k within)
+    (merel_moved p N k n 1 identity identity positive some within coprime (identity_index N) refl) in
     let second : Same {p = p} N (symbol_sum N L (by_s N k) ⊞ origin) infinity = subst (Same {p = p} N (symbol_sum N L (by_s N k) ⊞ origin))
     (ends-opposite N k n identity (pos 1) (pos 0))
-    (merel_moved p N k n 1 identity matrix_s positive some within coprime (good_identity N) refl) in
+    (merel_moved p N k n 1 identity matrix_s positive some within coprime (identity_index N) refl) in
     same_cancel positive (infinity ⊞ origin) (same_by (plus_middle (symbol_sum N L k) (symbol_sum N L (by_s N k)) infinity origin)
     (zeros-plus (infinity ⊞ origin) ∙ plus_comm infinity origin) (same_plus positive first second))
 
@@ -67,12 +62,14 @@ merel_triple p N n k positive some coprime within =
     let middle : Vector p = ends N k n identity (negsuc 0) (negsuc 0) in
     let t : ℕ = image_number N k matrix_t in
     let tt : ℕ = image_number N t matrix_t in
-    let first : Same {p = p} N (symbol_sum N L k ⊞ infinity) origin = subst (λ j. Same {p = p} N (symbol_sum N L j ⊞ infinity) origin) (by_identity N k within)
-    (merel_moved p N k n 1 identity identity positive some within coprime (good_identity N) refl) in
-    let second : Same {p = p} N (symbol_sum N L t ⊞ origin) middle = merel_moved p N k n 1 identity matrix_t positive some within coprime (good_identity N) refl in
+    let first : Same {p = p} N (symbol_sum N L k ⊞ infinity) origin = subst (λ j. Same {p = p} N (symbol_sum N L j ⊞ infinity) origin)
+    (by_identity N k within)
+    (merel_moved p N k n 1 identity identity positive some within coprime (identity_index N) refl) in
+    let second : Same {p = p} N (symbol_sum N L t ⊞ origin) middle = merel_moved p N k n 1 identity matrix_t positive some within coprime
+    (identity_index N) refl in
     let third : Same {p = p} N (symbol_sum N L tt ⊞ middle) infinity = subst (λ j. Same {p = p} N (symbol_sum N L j ⊞ middle) infinity)
     (sym (moved N k matrix_t matrix_t within refl))
-    (merel_moved p N k n 1 identity (product matrix_t matrix_t) positive some within coprime (good_identity N) refl) in
+    (merel_moved p N k n 1 identity (product matrix_t matrix_t) positive some within coprime (identity_index N) refl) in
     same_cancel positive ((infinity ⊞ origin) ⊞ middle)
     (same_by (plus_middle (symbol_sum N L k ⊞ symbol_sum N L t) (symbol_sum N L tt) (infinity ⊞ origin) middle
     ∙ ap (λ v. v ⊞ (symbol_sum N L tt ⊞ middle)) (plus_middle (symbol_sum N L k) (symbol_sum N L t) infinity origin))
@@ -102,9 +99,11 @@ sum_triple p N n k within =
     ∙ ap (λ v. symbol_sum {p = p} N L k ⊞ v) (hecke_sum-unit N L t t_within))
     ∙ ap (λ v. (symbol_sum {p = p} N L k ⊞ symbol_sum N L t) ⊞ v) (hecke_sum-unit N L tt (moved-lt N t matrix_t t_within refl))
 
-pub merel_relation : (p N n k : ℕ) → 0 < p → 0 < n → gcd n N ≡ 1 → k < 2 * length (symbols N) → Congruent {p = p} N (merel_sum N n (relation N k)) zeros
+pub merel_relation : (p N n k : ℕ) → 0 < p → 0 < n → gcd n N ≡ 1 → k < 2 * length (symbols N) → Congruent {p = p} N
+    (merel_sum N n (relation N k)) zeros
 merel_relation p N n k positive some coprime l = elim (cases_lt k (length (symbols N))) [
-  | inl within ↦ subst (λ v. Congruent {p = p} N v zeros) (sym (sum_pair p N n k within)) (merel_pair p N n k positive some coprime within).congruent
+  | inl within ↦ subst (λ v. Congruent {p = p} N v zeros) (sym (sum_pair p N n k within))
+      (merel_pair p N n k positive some coprime within).congruent
   | inr beyond ↦
       let j : ℕ = k - length (symbols N) in
       let e : length (symbols N) + j ≡ k = omega (arith, beyond) in
@@ -113,26 +112,8 @@ merel_relation p N n k positive some coprime l = elim (cases_lt k (length (symbo
       (subst (λ v. Congruent {p = p} N v zeros) (sym (sum_triple p N n j within)) (merel_triple p N n j positive some coprime within).congruent)
 ]
 
--- ---- and so each combination of them
-sums_in : {p : ℕ} (N : ℕ) (L : List Matrix) (rows : List (Vector p)) (c : Vector p) → Each (λ r. InSpan (relations {p = p} N) (hecke_sum N L r)) rows
-    → InSpan (relations {p = p} N) (hecke_sum N L (combination c rows))
-sums_in {p} N L [] c none = subst (InSpan (relations {p = p} N)) (sym (hecke_sum-zeros N L)) (InSpan-zeros (relations {p = p} N))
-sums_in {p} N L (r ∷ rows) c (more h hs) =
-    subst (InSpan (relations {p = p} N)) (sym (hecke_sum-plus N L (c 0 ⊡ r) (combination (tail c) rows)
-    ∙ ap (λ v. v ⊞ hecke_sum N L (combination (tail c) rows)) (hecke_sum-scale N L (c 0) r)))
-    (InSpan-plus (relations {p = p} N) (c 0 ⊡ hecke_sum N L r) (hecke_sum N L (combination (tail c) rows))
-    (InSpan-scale (c 0) (relations {p = p} N) (hecke_sum N L r) h) (sums_in N L rows (tail c) hs))
-
-pub hecke_sum-minus : {p : ℕ} (N : ℕ) (L : List Matrix) (x y : Vector p) → 0 < p → hecke_sum N L (minus x y) ≡ minus (hecke_sum N L x) (hecke_sum N L y)
-hecke_sum-minus {p} N L x y positive =
-    ap (hecke_sum N L) (minus-times positive x y) ∙ hecke_sum-plus N L x (residue p (p - 1) ⊡ y)
-    ∙ ap (λ v. hecke_sum N L x ⊞ v) (hecke_sum-scale N L (residue p (p - 1)) y) ∙ sym (minus-times positive (hecke_sum N L x) (hecke_sum N L y))
-
-pub merel_congruent : (p N n : ℕ) (x y : Vector p) → 0 < p → 0 < n → gcd n N ≡ 1 → Congruent N x y → Congruent N (merel_sum N n x) (merel_sum N n y)
+-- and so congruent combinations have congruent sums
+pub merel_congruent : (p N n : ℕ) (x y : Vector p) → 0 < p → 0 < n → gcd n N ≡ 1 → Congruent N x y
+    → Congruent N (merel_sum N n x) (merel_sum N n y)
 merel_congruent p N n x y positive some coprime h =
-    subst (InSpan (relations {p = p} N)) (ap (merel_sum N n) (sym h.is_combination) ∙ hecke_sum-minus N (merel_matrices n) x y positive)
-    (sums_in N (merel_matrices n) (relations {p = p} N) h.coefficients
-    (Each-rows (λ r. InSpan (relations {p = p} N) (merel_sum N n r)) (relations {p = p} N) (λ j l.
-    let within : j < 2 * length (symbols N) = omega (arith, l, length-relations p N) in
-    subst (λ r. InSpan (relations {p = p} N) (merel_sum N n r)) (sym (row-relations p N j within))
-    (InSpan_from_Congruent positive (relations {p = p} N) (merel_sum N n (relation N j)) (merel_relation p N n j positive some coprime within)))))
+    Congruent-hecke_sum positive (record { each = λ k l. merel_relation p N n k positive some coprime l }) x y h

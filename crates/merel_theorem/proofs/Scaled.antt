@@ -1,4 +1,4 @@
--- A matrix times a number: the ways over its lattice stay, and where q divides a matrix each matrix of determinant q does.
+-- The lattice of q t, for a number q: it has the arcs of that of t, where q is coprime to the level; and it lies in each lattice of index q.
 use Rattle.std.proofs.Common.{◌≡◌, ◌≢◌, ◌*◌, ◌<◌, ℕ, zero, suc, length, sym, ◌∙◌, ap, arith}
 use Rattle.std.specs.Prelude.{ℤ, pos, neg_ℤ, ◌+ℤ◌, ◌-ℤ◌, ◌*ℤ◌}
 use Rattle.std.proofs.lemmas.Int.{ints}
@@ -17,7 +17,7 @@ use Rattle.merel_theorem.proofs.Signs.{toward, toward-scaled}
 use Rattle.merel_theorem.proofs.Bases.{product_assoc, adjoint}
 use Rattle.merel_theorem.proofs.Chains.{from_end}
 use Rattle.merel_theorem.proofs.Factors.{Divides}
-use Rattle.merel_theorem.proofs.Products.{arc}
+use Rattle.merel_theorem.proofs.Arcs.{arc}
 
 -- ---- q times the identity, and q times a matrix
 abbrev pub scalar : ℕ → Matrix

@@ -1,18 +1,20 @@
--- Ways from all ends x / z, for integers x and z, and each matrix of determinant 1 joins two of them.
-use Rattle.std.proofs.Common.{◌≡◌, ◌+◌, ◌-◌, ◌*◌, ◌<◌, ◌≤◌, ◌⊎◌, ℕ, zero, suc, length, refl, sym, ◌∙◌, ap, subst, inl, inr, arith}
+-- The way from each end x / z, of integers x and z. It depends on the end alone, and each integer matrix of determinant 1 joins the ways of its
+-- two columns (`joins_all`).
+use Rattle.std.proofs.Common.{◌≡◌, ◌+◌, ◌-◌, ◌*◌, ◌<◌, ◌≤◌, ℕ, zero, suc, length, refl, sym, ◌∙◌, ap, subst, inl, inr, arith}
 use Rattle.std.specs.Prelude.{ℤ, pos, negsuc, neg_ℤ, ◌+ℤ◌, ◌-ℤ◌, ◌*ℤ◌}
 use Rattle.std.proofs.lemmas.Int.{ints}
 use Rattle.std.proofs.lemmas.Bool.{cases_lt}
 use Rattle.linear_algebra.specs.Vector.{Vector, ◌⊞◌, zeros}
 use Rattle.linear_algebra.specs.Coordinates.{unit}
-use Rattle.linear_algebra.proofs.Vectors.{plus-zeros, zeros-plus, plus_comm, plus_assoc, plus_right_comm}
+use Rattle.linear_algebra.proofs.Vectors.{zeros-plus, plus_comm, plus_assoc}
 use Rattle.p1_normal.specs.declared.matrix.Matrix.{Matrix}
 use Rattle.p1_normal.specs.Points.{symbols}
 use Rattle.p1_normal.specs.Actions.{matrix, product, determinant, image_number, matrix_s}
 use Rattle.heilbronn_chains.proofs.Integers.{is_gap, pos_gap, neg_gap, gaps, gap_same}
-use Rattle.merel_theorem.proofs.Classes.{Same, same_refl, same_from, same_sym, same_trans, same_plus, same_left, same_right, same_cancel, same_by}
 use Rattle.merel_theorem.proofs.Terms.{by_s, by_u, by_v, s-lt, same_matrix, moved, moved-lt, by_opposite, pair}
-use Rattle.merel_theorem.proofs.Ways.{way, way_end, way_zero, way_over, way_under, joined}
+use Rattle.merel_theorem.proofs.Ways.{way, way_end, way_zero, way_over, way_under, joined, positive_lower, positive_upper}
+use Rattle.merel_theorem.specs.Ways.{Ways}
+use Rattle.merel_theorem.proofs.Classes.{Same, same_by, same_from, same_left, same_refl, same_right, same_sym, same_trans}
 
 -- the way from x / z: where the signs differ, S takes it from a / c with natural a and c
 pub toward : {p : ℕ} → ℕ → ℤ → ℤ → ℕ → Vector p
@@ -80,7 +82,8 @@ way_scaled_within {p} N (suc f) k (suc a) (suc c) y l = elim (cases_lt a c) [
       ap (λ n. way {p = p} N n (suc k * suc c) y) some ∙ ap (λ n. way {p = p} N (suc (k * suc a + a)) n y) sum
       ∙ way_under N (k * suc a + a) (k * suc j + j) y
       ∙ ap (λ v. v ⊞ unit (by_u N y)) (ap (λ n. way {p = p} N n (suc (k * suc j + j)) (by_v N y)) (sym some)
-      ∙ ap (λ n. way {p = p} N (suc k * suc a) n (by_v N y)) (sym more) ∙ way_scaled_within N f k (suc a) (suc j) (by_v N y) (omega (arith, l, less)))
+      ∙ ap (λ n. way {p = p} N (suc k * suc a) n (by_v N y)) (sym more) ∙ way_scaled_within N f k (suc a) (suc j) (by_v N y)
+      (omega (arith, l, less)))
       ∙ sym (way_under N a j y) ∙ ap (λ n. way {p = p} N (suc a) n y) (sym e)
   | inr less ↦
       let i : ℕ = a - c in
@@ -197,14 +200,6 @@ joins_opposite p N m positive e h = record {
       (sym (toward-opposite N m.b m.d y)) (h.joins y within);
 }
 
-positive_last : (a b c d : ℕ) → a * d ≡ b * c + 1 → 0 < d
-positive_last a b c zero e = absurd (omega (arith, e))
-positive_last a b c (suc d) e = omega arith
-
-positive_first : (a b c d : ℕ) → a * d ≡ b * c + 1 → 0 < a
-positive_first zero b c d e = absurd (omega (arith, e))
-positive_first (suc a) b c d e = omega arith
-
 both_opposite : (x z : ℤ) → neg_ℤ x *ℤ neg_ℤ z ≡ x *ℤ z
 both_opposite x z = rw (is_gap x, is_gap z) (simp gaps (gap_same _ _ _ _ (omega arith)))
 
@@ -239,13 +234,14 @@ joins_lower p N a b c d positive e = record { joins = at }
         ∙ ap (image_number N y) (sym (rotated a b c d)) ∙ sym (moved N y matrix_s (matrix (pos d) (pos c) (pos b) (pos a)) within refl) in
         let cancels : Same {p = p} N (unit i ⊞ unit j) zeros = subst (λ k. Same {p = p} N (unit i ⊞ unit k) zeros) same_j
         (turned_pair p N y m positive within (det a b c d e)) in
-        let inner : Same {p = p} N (unit j ⊞ way N d b y_s) (way N c a y_s) = joined p N d c b a y_s positive (s-lt N y within) (omega (arith, e)) in
+        let inner : Same {p = p} N (unit j ⊞ way N d b y_s) (way N c a y_s) = joined p N d c b a y_s positive (s-lt N y within)
+        (omega (arith, e)) in
         same_trans positive (same_right positive (unit i)
-        (first_turned p N a c y positive within (omega (arith, positive_first a b c d e))))
+        (first_turned p N a c y positive within (omega (arith, positive_upper a b c d e))))
         (same_trans positive (same_right positive (unit i) (same_left positive (unit y) (same_sym positive inner)))
         (same_trans positive (same_by (sym (shuffle (unit i) (unit j) (way N d b y_s) (unit y))) (sym (zeros-plus (way N d b y_s ⊞ unit y)))
         (same_left positive (way N d b y_s ⊞ unit y) cancels))
-        (same_sym positive (second_turned p N b d y positive within (omega (arith, positive_last a b c d e))))))
+        (same_sym positive (second_turned p N b d y positive within (omega (arith, positive_lower a b c d e))))))
       where
         shuffle : (u v w x : Vector p) → (u ⊞ v) ⊞ (w ⊞ x) ≡ u ⊞ ((v ⊞ w) ⊞ x)
         shuffle u v w x = plus_assoc u v (w ⊞ x) ∙ ap (λ s. u ⊞ s) (sym (plus_assoc v w x))
@@ -301,3 +297,17 @@ joins_entries p N a (negsuc b) (pos (suc c)) d positive e =
 -- each matrix of determinant 1
 pub joins_all : (p N : ℕ) (m : Matrix) → 0 < p → determinant m ≡ pos 1 → Joins p N m
 joins_all p N m positive e = joins_entries p N m.a m.b m.c m.d positive e
+
+-- the way from infinity is none
+toward-infinity : {p : ℕ} (N : ℕ) (x : ℤ) (y : ℕ) → toward {p = p} N x (pos 0) y ≡ zeros
+unfolding toward
+toward-infinity N (pos a) y = way_end N a y
+toward-infinity N (negsuc a) y = way_end N (suc a) y
+
+pub has_ways : (p N y : ℕ) → 0 < p → y < length (symbols N) → Ways p N y
+has_ways p N y positive within = record {
+  way = λ x z. toward N x z y;
+  infinity = λ x. toward-infinity N x y;
+  scaled = λ t x z some. toward-scaled N t x z y some;
+  joins = λ m e. ((joins_all p N m positive e).joins y within).congruent;
+}

@@ -1,21 +1,20 @@
--- Symbols moved by integer matrices of determinant 1, and the relations between them: y + y S, and y = y U + y V.
+-- The symbol y m for a matrix m of determinant 1, and the relations: y + y S is congruent to 0, and y to y U + y V.
 use Rattle.std.proofs.Common.{◌≡◌, ◌+◌, ◌<◌, ℕ, zero, suc, length, refl, sym, ◌∙◌, ap, subst, arith}
-use Rattle.std.specs.Prelude.{ℤ, pos, negsuc, neg_ℤ, ◌+ℤ◌, ◌-ℤ◌, ◌*ℤ◌}
+use Rattle.std.specs.Prelude.{ℤ, pos, negsuc, neg_ℤ, ◌+ℤ◌, ◌*ℤ◌}
 use Rattle.std.proofs.lemmas.Int.{ints}
 use Rattle.linear_algebra.specs.Vector.{Vector, ◌⊞◌, zeros}
 use Rattle.linear_algebra.specs.Coordinates.{unit}
-use Rattle.linear_algebra.specs.Integers.{residue_of}
 use Rattle.linear_algebra.proofs.Vectors.{plus-zeros, plus_comm, plus_assoc, plus_middle}
 use Rattle.p1_normal.specs.declared.matrix.Matrix.{Matrix}
-use Rattle.p1_normal.specs.Units.{gcd}
 use Rattle.p1_normal.specs.Points.{symbols}
-use Rattle.p1_normal.specs.Actions.{matrix, product, determinant, IsInvertible, image_number, matrix_s, matrix_t, matrix_u}
+use Rattle.p1_normal.specs.Actions.{matrix, product, determinant, image_number, matrix_s, matrix_t, matrix_u}
 use Rattle.p1_normal.proofs.Numbers.{level_positive}
 use Rattle.p1_normal.proofs.Actions.{IsUnit-minus_one}
-use Rattle.p1_normal.proofs.Moves.{image_number-lt, image_number-scalar, IsUnit-plus_one, invertible_s, invertible_t, invertible_u}
+use Rattle.p1_normal.proofs.Moves.{image_number-lt, image_number-scalar, IsUnit-plus_one, invertible_s, invertible_u}
 use Rattle.p1_normal.proofs.LevelLaws.{image_number_product}
 use Rattle.manin_relations.proofs.RelationLaws.{Congruent-pair, Congruent-triple}
-use Rattle.merel_theorem.proofs.Classes.{Same, same_refl, same_from, same_sym, same_trans, same_plus, same_left, same_right, same_cancel, same_by}
+use Rattle.merel_theorem.proofs.Classes.{Same, same_by, same_cancel, same_plus, same_sym, same_trans}
+use Rattle.heilbronn_chains.proofs.Turns.{invertible_one}
 
 -- V
 abbrev pub matrix_v : Matrix
@@ -39,14 +38,11 @@ by_v N y = image_number N y matrix_v
 pub same_matrix : {a b c d a' b' c' d' : ℤ} → a ≡ a' → b ≡ b' → c ≡ c' → d ≡ d' → matrix a b c d ≡ matrix a' b' c' d'
 same_matrix e f g h = λ i. matrix (e i) (f i) (g i) (h i)
 
--- ---- matrices of determinant 1
-pub invertible_one : (N : ℕ) (m : Matrix) → determinant m ≡ pos 1 → IsInvertible N m
-invertible_one N m e = subst (λ z. gcd (residue_of N z) N ≡ 1) (sym e) (invertible_s N)
-
 pub moved-lt : (N y : ℕ) (m : Matrix) → y < length (symbols N) → determinant m ≡ pos 1 → image_number N y m < length (symbols N)
 moved-lt N y m within e = image_number-lt N y m within (invertible_one N m e)
 
-pub moved : (N y : ℕ) (m w : Matrix) → y < length (symbols N) → determinant m ≡ pos 1 → image_number N (image_number N y m) w ≡ image_number N y (product m w)
+pub moved : (N y : ℕ) (m w : Matrix) → y < length (symbols N) → determinant m ≡ pos 1 → image_number N (image_number N y m) w
+    ≡ image_number N y (product m w)
 moved N y m w within e = image_number_product N y m w within (invertible_one N m e)
 
 pub s-lt : (N y : ℕ) → y < length (symbols N) → by_s N y < length (symbols N)
@@ -102,12 +98,16 @@ three_terms p N y positive within =
     let t : ℕ = image_number N y matrix_t in
     let tt : ℕ = image_number N t matrix_t in
     let other : Vector p = unit tt ⊞ unit t in
-    let by_u_pair : Same {p = p} N (unit (by_u N y) ⊞ unit tt) zeros = subst (λ i. Same {p = p} N (unit (by_u N y) ⊞ unit i) zeros) (by_u_s N y within)
+    let by_u_pair : Same {p = p} N (unit (by_u N y) ⊞ unit tt) zeros = subst (λ i. Same {p = p} N (unit (by_u N y) ⊞ unit i) zeros)
+    (by_u_s N y within)
     (pair p N (by_u N y) positive (u-lt N y within)) in
-    let by_v_pair : Same {p = p} N (unit (by_v N y) ⊞ unit t) zeros = subst (λ i. Same {p = p} N (unit (by_v N y) ⊞ unit i) zeros) (by_v_s N y within)
+    let by_v_pair : Same {p = p} N (unit (by_v N y) ⊞ unit t) zeros = subst (λ i. Same {p = p} N (unit (by_v N y) ⊞ unit i) zeros)
+    (by_v_s N y within)
     (pair p N (by_v N y) positive (v-lt N y within)) in
     let first : Same {p = p} N (unit y ⊞ other) zeros =
-    same_by (ap (λ v. unit y ⊞ v) (plus_comm (unit tt) (unit t)) ∙ sym (plus_assoc (unit y) (unit t) (unit tt))) refl (triple p N y positive within) in
+    same_by (ap (λ v. unit y ⊞ v) (plus_comm (unit tt) (unit t)) ∙ sym (plus_assoc (unit y) (unit t) (unit tt))) refl
+    (triple p N y positive within) in
     let second : Same {p = p} N ((unit (by_u N y) ⊞ unit (by_v N y)) ⊞ other) zeros =
-    same_by (plus_middle (unit (by_u N y)) (unit (by_v N y)) (unit tt) (unit t)) (sym (plus-zeros zeros)) (same_plus positive by_u_pair by_v_pair) in
+    same_by (plus_middle (unit (by_u N y)) (unit (by_v N y)) (unit tt) (unit t)) (sym (plus-zeros zeros))
+    (same_plus positive by_u_pair by_v_pair) in
     same_cancel positive other (same_trans positive first (same_sym positive second))

@@ -1,23 +1,25 @@
--- The way from an end a / c to infinity, for natural a and c, as a sum of symbols that a symbol y moves to: each step of subtraction
--- takes U or V off the left. It is a sum such that the symbol y (a, b; c, d), the way from a / c joined, is the way from b / d.
-use Rattle.std.proofs.Common.{◌≡◌, ◌+◌, ◌-◌, ◌*◌, ◌<◌, ◌≤◌, ℕ, zero, suc, Bool, cond, length, nat_le, refl, sym, ◌∙◌, ap, subst, inl, inr, arith}
-use Rattle.std.specs.Prelude.{ℤ, pos, negsuc, ◌+ℤ◌, ◌-ℤ◌, ◌*ℤ◌}
+-- The way from an end a / c to infinity, for natural a and c: the symbols that subtraction passes as it brings a / c to infinity, moved by a
+-- symbol y. Each step takes U or V off the left, so for a matrix (a, b; c, d) of determinant 1 and natural entries the symbol y (a, b; c, d),
+-- followed by the way from a / c, is congruent to the way from b / d (`joined`).
+use Rattle.std.proofs.Common.{◌≡◌, ◌+◌, ◌-◌, ◌*◌, ◌<◌, ◌≤◌, ℕ, zero, suc, cond, length, nat_le, refl, sym, ◌∙◌, ap, subst, inl, inr, arith}
+use Rattle.std.specs.Prelude.{ℤ, pos, ◌+ℤ◌, ◌*ℤ◌}
 use Rattle.std.proofs.lemmas.Int.{ints}
 use Rattle.std.proofs.lemmas.Bool.{cases_lt, cond-true, cond-false, le-leb, lt-leb}
 use Rattle.linear_algebra.specs.Vector.{Vector, ◌⊞◌, zeros}
 use Rattle.linear_algebra.specs.Coordinates.{unit}
 use Rattle.linear_algebra.proofs.Vectors.{plus-zeros, zeros-plus, plus_comm, plus_assoc}
 use Rattle.p1_normal.specs.Points.{symbols}
-use Rattle.p1_normal.specs.Actions.{matrix, product, image_number, matrix_u}
-use Rattle.merel_theorem.proofs.Classes.{Same, same_refl, same_from, same_sym, same_trans, same_plus, same_left, same_right, same_cancel, same_by}
+use Rattle.p1_normal.specs.Actions.{matrix, image_number, matrix_u}
 use Rattle.merel_theorem.proofs.Terms.{matrix_v, identity, by_u, by_v, u-lt, v-lt, same_matrix, moved, by_identity, three_terms}
+use Rattle.merel_theorem.proofs.Classes.{Same, same_by, same_from, same_left, same_right, same_sym, same_trans}
 
 -- the way within a number of steps
 pub reach : {p : ℕ} → ℕ → ℕ → ℕ → ℕ → ℕ → Vector p
 reach N zero a c y = zeros
 reach N (suc f) a zero y = zeros
 reach N (suc f) zero (suc c) y = unit y
-reach N (suc f) (suc a) (suc c) y = cond (nat_le c a) (reach N f (a - c) (suc c) (by_u N y)) (reach N f (suc a) (c - a) (by_v N y) ⊞ unit (by_u N y))
+reach N (suc f) (suc a) (suc c) y = cond (nat_le c a) (reach N f (a - c) (suc c) (by_u N y))
+    (reach N f (suc a) (c - a) (by_v N y) ⊞ unit (by_u N y))
 
 abbrev pub way : {p : ℕ} → ℕ → ℕ → ℕ → ℕ → Vector p
 way N a c y = reach N (a + c) a c y
@@ -80,13 +82,15 @@ pub way_below : (p N a c y : ℕ) → 0 < p → y < length (symbols N) → 0 < a
     → Same {p = p} N (way N a (a + c) y) (way N a c (by_v N y) ⊞ unit (by_u N y))
 way_below p N zero zero y positive within some = absurd (omega (arith, some))
 way_below p N zero (suc c) y positive within some =
-    same_by (ap (λ n. way {p = p} N 0 n y) plain ∙ way_zero N c y) (ap (λ v. v ⊞ unit (by_u N y)) (way_zero N c (by_v N y)) ∙ plus_comm (unit (by_v N y)) (unit (by_u N y)))
+    same_by (ap (λ n. way {p = p} N 0 n y) plain ∙ way_zero N c y)
+    (ap (λ v. v ⊞ unit (by_u N y)) (way_zero N c (by_v N y)) ∙ plus_comm (unit (by_v N y)) (unit (by_u N y)))
     (three_terms p N y positive within)
   where
     plain : 0 + suc c ≡ suc c
     plain = omega arith
 way_below p N (suc a) zero y positive within some =
-    same_from positive (ap (λ n. way {p = p} N (suc a) n y) whole ∙ ap (λ n. way {p = p} N n (suc a) y) plain ∙ way_over N 0 (suc a) y ∙ way_zero N a (by_u N y)
+    same_from positive (ap (λ n. way {p = p} N (suc a) n y) whole ∙ ap (λ n. way {p = p} N n (suc a) y) plain ∙ way_over N 0 (suc a) y
+    ∙ way_zero N a (by_u N y)
     ∙ sym (ap (λ v. v ⊞ unit (by_u N y)) (way_end N (suc a) (by_v N y)) ∙ zeros-plus (unit (by_u N y))))
   where
     whole : suc a + 0 ≡ suc a
@@ -130,11 +134,11 @@ step a b c d e = elim (cases_lt a c) [
         stays (omega (arith, f, c_none, i_none)) b_none c_none (omega (arith, g, b_none, j_none))
 
 -- a factor of determinant 1 is not 0
-positive_lower : (a b c d : ℕ) → a * d ≡ b * c + 1 → 0 < d
+pub positive_lower : (a b c d : ℕ) → a * d ≡ b * c + 1 → 0 < d
 positive_lower a b c zero e = absurd (omega (arith, e))
 positive_lower a b c (suc d) e = omega arith
 
-positive_upper : (a b c d : ℕ) → a * d ≡ b * c + 1 → 0 < a
+pub positive_upper : (a b c d : ℕ) → a * d ≡ b * c + 1 → 0 < a
 positive_upper zero b c d e = absurd (omega (arith, e))
 positive_upper (suc a) b c d e = omega arith
 
@@ -157,21 +161,25 @@ joined_one p N y positive within = same_from positive (ap (λ v. unit (image_num
 
 joined_over : (p N i j c d y : ℕ) → 0 < p → y < length (symbols N) → Joined p N i j c d (by_u N y) → Joined p N (i + c) (j + d) c d y
 joined_over p N i j c d y positive within h =
-    same_by (ap (λ w. unit w ⊞ way {p = p} N (i + c) c y) (ap (image_number N y) (same_matrix (first_row i c) (first_row j d) (only_second i c) (only_second j d))
+    same_by (ap (λ w. unit w ⊞ way {p = p} N (i + c) c y)
+    (ap (image_number N y) (same_matrix (first_row i c) (first_row j d) (only_second i c) (only_second j d))
     ∙ sym (moved N y matrix_u (matrix (pos i) (pos j) (pos c) (pos d)) within refl))
     ∙ ap (λ v. unit (image_number N (by_u N y) (matrix (pos i) (pos j) (pos c) (pos d))) ⊞ v) (way_over N i c y)) (way_over N j d y) h
 
-joined_under : (p N a b i j y : ℕ) → 0 < p → y < length (symbols N) → 0 < a → 0 < j → Joined p N a b i j (by_v N y) → Joined p N a b (a + i) (b + j) y
+joined_under : (p N a b i j y : ℕ) → 0 < p → y < length (symbols N) → 0 < a → 0 < j → Joined p N a b i j (by_v N y) → Joined p N a b (a + i)
+    (b + j) y
 joined_under p N a b i j y positive within some more h =
     let left : ℕ = image_number N (by_v N y) (matrix (pos a) (pos b) (pos i) (pos j)) in
     same_trans positive (same_by (ap (λ w. unit w ⊞ way {p = p} N a (a + i) y) (ap (image_number N y)
     (same_matrix (only_first a i) (only_first b j) (first_row a i) (first_row b j))
-    ∙ sym (moved N y matrix_v (matrix (pos a) (pos b) (pos i) (pos j)) within refl))) (plus_assoc (unit left) (way N a i (by_v N y)) (unit (by_u N y)))
+    ∙ sym (moved N y matrix_v (matrix (pos a) (pos b) (pos i) (pos j)) within refl))) (plus_assoc (unit left) (way N a i (by_v N y)) (unit
+    (by_u N y)))
     (same_right positive (unit left) (way_below p N a i y positive within (omega (arith, some)))))
     (same_trans positive (same_left positive (unit (by_u N y)) h) (same_sym positive (way_below p N b j y positive within (omega (arith, more)))))
 
 joined_by : (p N f a b c d y : ℕ) → 0 < p → y < length (symbols N) → a + b + c + d ≤ suc f → a * d ≡ b * c + 1
-    → ((a b c d y : ℕ) → y < length (symbols N) → a + b + c + d ≤ f → a * d ≡ b * c + 1 → Joined p N a b c d y) → Step a b c d → Joined p N a b c d y
+    → ((a b c d y : ℕ) → y < length (symbols N) → a + b + c + d ≤ f → a * d ≡ b * c + 1 → Joined p N a b c d y) → Step a b c d
+    → Joined p N a b c d y
 joined_by p N f a b c d y positive within l e rest (stays g h k m) =
     subst (λ n. Joined p N n b c d y) (sym g) (subst (λ n. Joined p N 1 n c d y) (sym h) (subst (λ n. Joined p N 1 0 n d y) (sym k)
     (subst (λ n. Joined p N 1 0 0 n y) (sym m) (joined_one p N y positive within))))
@@ -190,7 +198,8 @@ joined_by p N f a b c d y positive within l e rest (under i j g h) =
 
 joined_within : (p N f : ℕ) → 0 < p → (a b c d y : ℕ) → y < length (symbols N) → a + b + c + d ≤ f → a * d ≡ b * c + 1 → Joined p N a b c d y
 joined_within p N zero positive a b c d y within l e = absurd (let some = positive_upper a b c d e in omega (arith, some, l))
-joined_within p N (suc f) positive a b c d y within l e = joined_by p N f a b c d y positive within l e (joined_within p N f positive) (step a b c d e)
+joined_within p N (suc f) positive a b c d y within l e = joined_by p N f a b c d y positive within l e (joined_within p N f positive)
+    (step a b c d e)
 
 pub joined : (p N a b c d y : ℕ) → 0 < p → y < length (symbols N) → a * d ≡ b * c + 1
     → Same {p = p} N (unit (image_number N y (matrix (pos a) (pos b) (pos c) (pos d))) ⊞ way N a c y) (way N b d y)
