@@ -1,5 +1,5 @@
 -- Operators that are prime to the level: they keep congruence, and their matrices commute.
-use Rattle.std.proofs.Common.{◌≡◌, ◌<◌, ℕ, List, [], length, get_or, map, sym, ◌∙◌, ap, subst, arith}
+use Rattle.std.proofs.Common.{◌≡◌, ◌<◌, ℕ, List, [], length, get_or, map, sym, ◌∙◌, ap, arith}
 use Rattle.std.proofs.lemmas.List.{get_or-map, length-map}
 use Rattle.linear_algebra.specs.Prime.{IsPrime}
 use Rattle.linear_algebra.specs.Vector.{Vector, combination}
@@ -19,7 +19,7 @@ use Rattle.quotient_coords.specs.Maps.{IsMatrixOf}
 use Rattle.quotient_coords.proofs.Maps.{matrix_of_image, matrix_of_same}
 use Rattle.stable_subspaces.specs.Operator.{Commute}
 use Rattle.heilbronn_sets.specs.Merel.{merel_matrices}
-use Rattle.hecke_columns.specs.Hecke.{hecke_sum, merel_sum}
+use Rattle.hecke_columns.specs.Hecke.{merel_sum}
 use Rattle.hecke_ops.specs.Operators.{IsFirstFailing, KeepsRelations}
 use Rattle.hecke_ops.proofs.Sums.{hecke_sum-combination}
 use Rattle.hecke_ops.proofs.FirstFailing.{failing_or_keeps}

@@ -1,4 +1,4 @@
--- Where nothing refuses the commands of a script and their operators agree, each of them is answered and each split accepted.
+-- Where nothing refuses the commands of a script, each of them is answered and each split accepted.
 use Rattle.std.proofs.Common.{◌≡◌, ◌≢◌, inl, inr, ℕ, ℤ, zero, suc, ◌+◌, Bool, true, cond, List, [], ◌∷◌, length, get_or, take, map, All, Contains, Some, Ok, Err, Result, slice_get, count_by, refl, sym, ◌∙◌, ap, subst, arith}
 use Rattle.std.specs.List.{AllZip, flat_map}
 use Rattle.std.proofs.lemmas.List.Elements.{All-contains, All-head, All-map, All-tail, All-take, Contains-append_left, Contains-append_right}
@@ -34,11 +34,12 @@ use Rattle.session_core.specs.Replies.{IsAccepted, IsAnswerTo}
 use Rattle.session_core.specs.Transcripts.{AreReplyLines, HasNoMemory, IsAnsweredBy, IsLegalRun, IsLegalTranscript, script_ground}
 use Rattle.session_core.proofs.RunsOnce.{columns_counted}
 use Rattle.generated_runs.specs.Splits.{line_operators, named_operator, read_operators, script_operators, session_operators, split_operator, split_operators}
-use Rattle.generated_runs.specs.Unrefused.{AcceptsSplits, AnswersAll, Fits, OperatorsAgree}
+use Rattle.generated_runs.specs.Unrefused.{AcceptsSplits, AnswersAll, Fits}
 use Rattle.generated_runs.proofs.Commuting.{agrees_with_listed}
 use Rattle.generated_runs.proofs.FixedImages.{AnsweredAt, line_answered}
 use Rattle.generated_runs.proofs.Histories.{full_count, room_left}
 use Rattle.generated_runs.proofs.LinesAnswered.{all_there, all_told, lines_counted}
+use Rattle.generated_runs.proofs.PrimeOperators.{OperatorsAgree, scripts_agree}
 
 -- an operator that keeps congruence acts
 acts : (g : Ground) → IsPrime g.characteristic → (op : OpName) (P : List (List ℕ) → Reply → Type 0) (reply : Reply) → KeepsCongruence g op
@@ -145,10 +146,14 @@ entry_operators script t legal v op h =
         subst (λ reading. Contains (read_operators split_operator reading) e.op) (sym entry.split) (itself e.op) in
         line_in_script split_operator script t s c line r e.op answered named
 
-module _ (script : ScriptText) (t : Transcript) (listed : IsListed script.space.characteristic) (fits : Fits script) (agree : OperatorsAgree script)
+module _ (script : ScriptText) (t : Transcript) (listed : IsListed script.space.characteristic) (fits : Fits script)
     (legal : IsLegalTranscript script t) (some : HasNoMemory t) where
   abbrev setting : Ground
   setting = script_ground script
+
+  -- its operators agree
+  agree : OperatorsAgree script
+  agree = scripts_agree script listed fits
 
   -- no reply is want of memory
   has_reply : (s c : ℕ) (line : NumberedLine) (r : ReplyLine) → IsAnsweredBy script t s c line r → r.reply ≢ replies.Memory
@@ -221,11 +226,11 @@ sessions_counted g history (lines ∷ sessions) (told ∷ all) h plain =
     ∙ sym (sum_by-cons (λ (session : List NumberedLine). length session) lines sessions)
 
 -- all is answered
-pub all_answered : (script : ScriptText) (t : Transcript) → IsListed script.space.characteristic → Fits script → OperatorsAgree script
+pub all_answered : (script : ScriptText) (t : Transcript) → IsListed script.space.characteristic → Fits script
     → IsLegalRun script t → HasNoMemory t → AnswersAll script t
-all_answered script t listed fits agree run some =
-    let plain = all_plain script t listed fits agree run.legal some in
-    let accepted = all_accepted script t listed fits agree run.legal some in
+all_answered script t listed fits run some =
+    let plain = all_plain script t listed fits run.legal some in
+    let accepted = all_accepted script t listed fits run.legal some in
     record {
       answers = plain;
       count = sessions_counted (script_ground script) t.history script.sessions t.sessions run.legal.sessions plain;

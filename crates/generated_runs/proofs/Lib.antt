@@ -4,6 +4,7 @@ pub mod LinesAnswered
 pub mod Histories
 pub mod FixedImages
 pub mod Commuting
+pub mod PrimeOperators
 pub mod Answering
 pub mod DrawnRefusals
 pub mod DrawnScripts

@@ -1,4 +1,4 @@
--- The summary of a legal run of the script of a drawing: its sum is that of every other, and so are its counts, where the operators agree.
+-- The summary of a legal run of the script of a drawing: its sum is that of every other, and so are its counts.
 use Rattle.std.proofs.Common.{◌≡◌, ◌≢◌, ℕ, Bool, false, cond, suc, List, [], ◌∷◌, length, All, Some, None, Ok, Result, slice_get, sum_by, count_by, zip, decimal, codes, ◌++◌, refl, sym, ◌∙◌, ap, subst, arith}
 use Rattle.std.specs.List.{AllZip}
 use Rattle.std.proofs.lemmas.List.Elements.{All-head, All-tail, All-weaker}
@@ -24,7 +24,7 @@ use Rattle.reply_text.specs.Rules.{replies_of}
 use Rattle.reply_text.specs.Summaries.{answer_sum, coordinate_sum, count_replies, image_coordinates, image_sum, is_memory, is_ok, session_sum, summary_text}
 use Rattle.session_core.specs.Transcripts.{AreReplyLines, HasNoMemory, IsAnsweredBy, IsLegalRun, IsLegalTranscript, script_ground}
 use Rattle.generated_runs.specs.GeneratedRuns.{HasDrawnFigures}
-use Rattle.generated_runs.specs.Unrefused.{Fits, OperatorsAgree}
+use Rattle.generated_runs.specs.Unrefused.{Fits}
 use Rattle.generated_runs.proofs.Answering.{all_answered}
 use Rattle.generated_runs.proofs.DrawnScripts.{IsDrawn, is_drawn, commands_counted, drawing_fits, drawn_line, reads_as, splits_counted}
 use Rattle.generated_runs.proofs.FixedImages.{image_fixed}
@@ -151,11 +151,10 @@ sessions_replied g history (lines ∷ sessions) (told ∷ all) h = omega (
   sessions_replied g history sessions all h.1,
 )
 
--- the counts of a run are those of the drawing, where the operators agree
-drawn_figures : (d : Drawing) → IsDrawn d → (t : Transcript) → OperatorsAgree (script_of_drawing d) → IsLegalRun (script_of_drawing d) t
-    → HasNoMemory t → HasDrawnFigures d t
-drawn_figures d h t agree run some =
-    let x = all_answered (script_of_drawing d) t h.listed (drawing_fits d h) agree run some in
+-- the counts of a run are those of the drawing
+drawn_figures : (d : Drawing) → IsDrawn d → (t : Transcript) → IsLegalRun (script_of_drawing d) t → HasNoMemory t → HasDrawnFigures d t
+drawn_figures d h t run some =
+    let x = all_answered (script_of_drawing d) t h.listed (drawing_fits d h) run some in
     record {
       answers = x.count ∙ commands_counted d h;
       memory = none_counted t.sessions some;
@@ -214,9 +213,6 @@ generated_is seed = refl
 drawn_run : (seed : ℕ) (t : Transcript) → IsLegalRun (generated seed) t → IsLegalRun (script_of_drawing (drawing seed)) t
 drawn_run seed t run = subst (λ script. IsLegalRun script t) (generated_is seed) run
 
-drawn_agree : (seed : ℕ) → OperatorsAgree (generated seed) → OperatorsAgree (script_of_drawing (drawing seed))
-drawn_agree seed agree = subst OperatorsAgree (generated_is seed) agree
-
 -- nothing refuses its commands
 pub generated_fits : (seed : ℕ) → Fits (generated seed)
 generated_fits seed = subst Fits (sym (generated_is seed)) (drawing_fits (drawing seed) (is_drawn seed))
@@ -228,9 +224,8 @@ sums_fixed seed t u run other some more =
     drawn_sums (drawing seed) (is_drawn seed) t u (drawn_run seed t run).legal (drawn_run seed u other).legal some more
 
 -- and the counts are
-pub figures_fixed : (seed : ℕ) (t : Transcript) → OperatorsAgree (generated seed) → IsLegalRun (generated seed) t → HasNoMemory t
-    → HasDrawnFigures (drawing seed) t
-figures_fixed seed t agree run some = drawn_figures (drawing seed) (is_drawn seed) t (drawn_agree seed agree) (drawn_run seed t run) some
+pub figures_fixed : (seed : ℕ) (t : Transcript) → IsLegalRun (generated seed) t → HasNoMemory t → HasDrawnFigures (drawing seed) t
+figures_fixed seed t run some = drawn_figures (drawing seed) (is_drawn seed) t (drawn_run seed t run) some
 
 -- so the summary is
 same_figures : (d : Drawing) (seed : ℕ) (t u : Transcript) → IsLegalTranscript (script_of_drawing d) t → IsLegalTranscript (script_of_drawing d) u
@@ -259,10 +254,10 @@ same_figures d seed t u legal other x y total = λ i. record {
     commands = sessions_replied (script_ground script) t.history script.sessions t.sessions legal.sessions
         ∙ sym (sessions_replied (script_ground script) u.history script.sessions u.sessions other.sessions)
 
-pub summaries_fixed : (seed : ℕ) (t u : Transcript) → OperatorsAgree (generated seed) → IsLegalRun (generated seed) t → IsLegalRun (generated seed) u
-    → HasNoMemory t → HasNoMemory u → summary_text seed t ≡ summary_text seed u
-summaries_fixed seed t u agree run other some more =
+pub summaries_fixed : (seed : ℕ) (t u : Transcript) → IsLegalRun (generated seed) t → IsLegalRun (generated seed) u → HasNoMemory t
+    → HasNoMemory u → summary_text seed t ≡ summary_text seed u
+summaries_fixed seed t u run other some more =
     summary_is seed t
     ∙ ap (summary_of seed) (same_figures (drawing seed) seed t u (drawn_run seed t run).legal (drawn_run seed u other).legal
-    (figures_fixed seed t agree run some) (figures_fixed seed u agree other more) (sums_fixed seed t u run other some more))
+    (figures_fixed seed t run some) (figures_fixed seed u other more) (sums_fixed seed t u run other some more))
     ∙ sym (summary_is seed u)

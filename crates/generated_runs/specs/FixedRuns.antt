@@ -3,7 +3,7 @@
 --   NoHistoryIsFull       fewer entries than a history has room for, where there are fewer commands
 --   SplitsFillHistories   as many entries as splits, where each split is accepted
 --   ImagesAreFixed        one reply to each `image` line, where the script fits and the reply is no want of memory
---   AllAreAnswered        an answer to each command, where the script fits, its operators agree and no reply is want of memory
+--   AllAreAnswered        an answer to each command, where the script fits and no reply is want of memory
 use Rattle.std.specs.Prelude.{◌≡◌, ◌≢◌, ◌<◌, ◌≤◌, ℕ, List, length, Ok}
 use Rattle.field_table.specs.Table.{IsListed}
 use Rattle.script_text.specs.declared.command.Command.TheVariants.{Image}
@@ -17,7 +17,7 @@ use Rattle.reply_text.specs.declared.transcript.ReplyLine.{ReplyLine}
 use Rattle.reply_text.specs.declared.transcript.Transcript.{Transcript}
 use Rattle.session_core.specs.Transcripts.{HasNoMemory, IsAnsweredBy, IsLegalRun, IsLegalTranscript}
 use Rattle.generated_runs.specs.Splits.{split_count}
-use Rattle.generated_runs.specs.Unrefused.{AcceptsSplits, AnswersAll, Fits, OperatorsAgree}
+use Rattle.generated_runs.specs.Unrefused.{AcceptsSplits, AnswersAll, Fits}
 
 abbrev pub HistoriesAreShort : Type 0
 HistoriesAreShort = (script : ScriptText) (t : Transcript) → IsLegalTranscript script t → length t.history ≤ split_count script.sessions
@@ -36,5 +36,5 @@ ImagesAreFixed = (script : ScriptText) (t u : Transcript) → IsListed script.sp
     → IsAnsweredBy script u s c line q → command_of line.text ≡ Ok (Image n terms) → r.reply ≢ Memory → q.reply ≢ Memory → r.reply ≡ q.reply
 
 abbrev pub AllAreAnswered : Type 0
-AllAreAnswered = (script : ScriptText) (t : Transcript) → IsListed script.space.characteristic → Fits script → OperatorsAgree script
+AllAreAnswered = (script : ScriptText) (t : Transcript) → IsListed script.space.characteristic → Fits script
     → IsLegalRun script t → HasNoMemory t → AnswersAll script t

@@ -5,7 +5,7 @@
 --                           versions as splits, and as many columns as distinct pairs that the commands demand
 --   GeneratedScriptsFit     nothing refuses a command of a script that is made from a number
 --   SumsAreFixed            the sum of the coordinates of its images is one, where no reply is want of memory
---   FiguresAreFixed         the counts are those of its drawing, where its operators agree too
+--   FiguresAreFixed         the counts are those of its drawing, where no reply is want of memory
 --   SummariesAreFixed       so the summary is one: a function of the number
 use Rattle.std.specs.Prelude.{◌≡◌, ℕ, Bool, true, false, length, sum_by, count_by}
 use Rattle.std.specs.Set.{distinct_count}
@@ -16,7 +16,7 @@ use Rattle.reply_text.specs.declared.transcript.Transcript.{Transcript}
 use Rattle.reply_text.specs.Summaries.{count_replies, image_sum, is_memory, is_ok, summary_text}
 use Rattle.session_core.specs.Demands.{is_pair, script_demand}
 use Rattle.session_core.specs.Transcripts.{HasNoMemory, IsLegalRun, script_ground}
-use Rattle.generated_runs.specs.Unrefused.{Fits, OperatorsAgree}
+use Rattle.generated_runs.specs.Unrefused.{Fits}
 
 abbrev pub is_split : DrawnCommand → Bool
 is_split (drawn.Split op constant) = true
@@ -39,9 +39,9 @@ SumsAreFixed = (seed : ℕ) (t u : Transcript) → IsLegalRun (generated seed) t
     → image_sum seed t.sessions ≡ image_sum seed u.sessions
 
 abbrev pub FiguresAreFixed : Type 0
-FiguresAreFixed = (seed : ℕ) (t : Transcript) → OperatorsAgree (generated seed) → IsLegalRun (generated seed) t → HasNoMemory t
+FiguresAreFixed = (seed : ℕ) (t : Transcript) → IsLegalRun (generated seed) t → HasNoMemory t
     → HasDrawnFigures (drawing seed) t
 
 abbrev pub SummariesAreFixed : Type 0
-SummariesAreFixed = (seed : ℕ) (t u : Transcript) → OperatorsAgree (generated seed) → IsLegalRun (generated seed) t → IsLegalRun (generated seed) u
+SummariesAreFixed = (seed : ℕ) (t u : Transcript) → IsLegalRun (generated seed) t → IsLegalRun (generated seed) u
     → HasNoMemory t → HasNoMemory u → summary_text seed t ≡ summary_text seed u

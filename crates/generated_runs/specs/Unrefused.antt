@@ -1,15 +1,13 @@
 -- Scripts that nothing refuses, and their transcripts.
 --   IsUnrefused g text      nothing refuses the command line at the ground g, at a version that is not full, whatever the number of its parts
 --   Fits script             the script has fewer commands than a history has room for, and nothing refuses one of them
---   OperatorsAgree script   each operator that a command names keeps congruence, and the matrices of any two that splits name commute
 --   AcceptsSplits script t  the reply to each split is that of an accepted one
 --   AnswersAll script t     each reply begins with ok, so that there are as many such as commands; each split is accepted, so that there are as
 --                           many versions as splits; and there are as many columns as distinct pairs that the commands demand
-use Rattle.std.specs.Prelude.{◌≡◌, ◌<◌, ℕ, ℤ, true, List, length, All, Contains, None, Ok}
+use Rattle.std.specs.Prelude.{◌≡◌, ◌<◌, ℕ, ℤ, true, List, length, All, None, Ok}
 use Rattle.std.specs.Set.{distinct_count}
 use Rattle.quotient_coords.specs.Quotient.{Ground}
 use Rattle.op_polynomials.specs.declared.name.OpName.{OpName}
-use Rattle.split_state.specs.Versions.{HaveCommutingMatrices}
 use Rattle.script_text.specs.declared.command.Command.TheVariants.{Split}
 use Rattle.script_text.specs.Commands.{command_of}
 use Rattle.script_text.specs.Numbered.{NumberedLine}
@@ -19,11 +17,10 @@ use Rattle.reply_text.specs.declared.transcript.ReplyLine.{ReplyLine}
 use Rattle.reply_text.specs.declared.transcript.Transcript.{Transcript}
 use Rattle.reply_text.specs.Summaries.{count_replies, is_ok}
 use Rattle.session_core.specs.Demands.{is_pair, script_demand}
-use Rattle.session_core.specs.Operators.{KeepsCongruence}
 use Rattle.session_core.specs.Refusals.{line_refusal}
 use Rattle.session_core.specs.Replies.{IsAccepted}
 use Rattle.session_core.specs.Transcripts.{IsAnsweredBy, script_ground}
-use Rattle.generated_runs.specs.Splits.{named_operators, split_operators, split_count}
+use Rattle.generated_runs.specs.Splits.{split_count}
 
 abbrev pub IsUnrefused : Ground → List ℕ → Type 0
 IsUnrefused g text = (v count : ℕ) → v < MAX_VERSIONS → line_refusal g v count text ≡ None
@@ -31,11 +28,6 @@ IsUnrefused g text = (v count : ℕ) → v < MAX_VERSIONS → line_refusal g v c
 pub record Fits (script : ScriptText) : Type 0 where
   pub few : command_count script.sessions < MAX_VERSIONS
   pub unrefused : All (All (λ (line : NumberedLine). IsUnrefused (script_ground script) line.text)) script.sessions
-
-pub record OperatorsAgree (script : ScriptText) : Type 0 where
-  pub keep : (op : OpName) → Contains (named_operators script.sessions) op → KeepsCongruence (script_ground script) op
-  pub commute : (op other : OpName) → Contains (split_operators script.sessions) op → Contains (split_operators script.sessions) other
-      → HaveCommutingMatrices (script_ground script) op other
 
 abbrev pub AcceptsSplits : ScriptText → Transcript → Type 0
 AcceptsSplits script t = (s c : ℕ) (line : NumberedLine) (r : ReplyLine) (op : OpName) (coefficients : List ℤ) → IsAnsweredBy script t s c line r

@@ -19,9 +19,9 @@ pub fn images_are_fixed()
     ensures law { ImagesAreFixed }
 {}
 
-/// Where nothing refuses the commands of a script, and their operators agree, a legal run without want of memory has an answer
-/// to each command, accepts each split, and has as many versions as the script has splits. Its columns are as many as the
-/// distinct pairs that its commands demand.
+/// Where nothing refuses the commands of a script, a legal run without want of memory has an answer to each command, accepts
+/// each split, and has as many versions as the script has splits. Its columns are as many as the distinct pairs that its
+/// commands demand. For its operators keep the relations and commute, by Merel's theorem.
 pub fn all_are_answered()
     ensures law { AllAreAnswered }
 {}
@@ -33,8 +33,8 @@ pub fn generated_images_are_fixed()
     ensures sums { SumsAreFixed }
 {}
 
-/// Where its operators agree too, the counts of such a run are those of its drawing, and the summary is a function of the
-/// number: two legal runs have one summary, whatever hosts made them.
+/// The counts of such a run are those of its drawing, and the summary is a function of the number: two legal runs have one
+/// summary, whatever hosts made them.
 pub fn generated_summaries_are_fixed()
     ensures figures { FiguresAreFixed }
     ensures summaries { SummariesAreFixed }

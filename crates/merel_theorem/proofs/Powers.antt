@@ -105,16 +105,16 @@ recurrence p N q l x positive other prime coprime_q coprime_l =
     (λ k within. recurrence_symbols p N q l k positive prime other coprime_q coprime_l within) x
 
 -- ---- for powers
-positive_power : (q r : ℕ) → 0 < q → 0 < q ^ r
+pub positive_power : (q r : ℕ) → 0 < q → 0 < q ^ r
 positive_power q zero some = omega (arith, pow-zero q)
 positive_power q (suc r) some = subst (λ n. 0 < n) (sym (pow-succ' q r)) (positive_times q (q ^ r) some (positive_power q r some))
 
-coprime_power : (N q r : ℕ) → 0 < N → gcd q N ≡ 1 → gcd (q ^ r) N ≡ 1
+pub coprime_power : (N q r : ℕ) → 0 < N → gcd q N ≡ 1 → gcd (q ^ r) N ≡ 1
 coprime_power N q zero some e = ap (λ n. gcd n N) (pow-zero q) ∙ gcd_from_IsUnit N 1 (IsUnit-one N)
 coprime_power N q (suc r) some e = ap (λ n. gcd n N) (pow-succ' q r) ∙ coprime_product N q (q ^ r) some e (coprime_power N q r some e)
 
 -- no prime is coprime to 0
-coprime_level : (N q : ℕ) → IsPrime q → gcd q N ≡ 1 → 0 < N
+pub coprime_level : (N q : ℕ) → IsPrime q → gcd q N ≡ 1 → 0 < N
 coprime_level zero q prime e = absurd (
     let g = IsGcd-gcd q 0 in
     omega (arith, prime.above_one, eq-one_of_dvd-one (subst (λ d. q ∣ d) e (g.2 q (dvd_refl q) (dvd-zero q)))))
