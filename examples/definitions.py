@@ -7,7 +7,7 @@ form: the expected transcripts of these examples come from here.
 It shares nothing with the program. Points are found by trying all units, a relation is a count of symbols, a symbol is
 bound where elimination from the greatest place leaves it as the greatest of a row, and Merel's sum acts by each matrix
 on each pair as it was given. A cusp is the set of symbols (u : v + iu). The sum of every relation is looked at before
-an operator is used: by Merel's theorem it is never other than 0, and no reply `err relation` is known. A split works
+an operator is used: by Merel's theorem it is never other than 0, so there is no reply `err relation`. A split works
 with the power of f(A) of which the exponent is the dimension of the whole space, which no chain of kernels or images
 outlasts."""
 
