@@ -18,7 +18,8 @@ use sym_io::{Sink, Source};
 /// its transcript to the output. With the one word `solo` the sessions run one after another and it returns on every
 /// input; with the one word `serve` they run all at once. With the word `gen` and a number it reads nothing: it makes a
 /// script from the number, runs its sessions all at once and writes a summary in place of the transcript. Other words are
-/// `Usage`, with nothing read or written.
+/// `Usage`, with nothing read or written. Where no reply is `err memory` the summary is a function of the
+/// number: for that Merel's theorem is proved in `merel_theorem`, and that operators commute in `commuting_operators`.
 pub fn run<R: Threads + Wait + Sync, I: Source, O: Sink, G: Gate>(
     rt: &R,
     alloc: Global,
