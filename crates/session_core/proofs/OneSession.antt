@@ -162,7 +162,7 @@ lines_left g history n k (line ∷ lines) (r ∷ told) h =
     next_line g history n k line lines r told h (λ m left. lines_left g history (n + 1) m lines told left)
 
 -- the answers of a legal transcript of one session are those of one thread
-one_answers : (script : ScriptText) (t : Transcript) → length script.sessions ≡ 1 → IsLegalTranscript script t
+pub one_answers : (script : ScriptText) (t : Transcript) → length script.sessions ≡ 1 → IsLegalTranscript script t
     → AnswersSessions (script_ground script) 1 [] script.sessions t.sessions t.history
 one_answers script t one legal = by_lists script.sessions t.sessions refl refl one legal.sessions
   where
