@@ -1,0 +1,4 @@
+pub mod Readable
+pub mod Columns
+pub mod Agreement
+pub mod GeneratedTexts
