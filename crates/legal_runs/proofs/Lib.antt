@@ -11,3 +11,4 @@ pub mod BoundedColumns
 pub mod FixedReplies
 mod DrawnTexts
 pub mod GeneratedTexts
+pub mod OperatorReplies

@@ -2,3 +2,4 @@ pub mod Readable
 pub mod Columns
 pub mod Agreement
 pub mod GeneratedTexts
+pub mod OperatorAnswers

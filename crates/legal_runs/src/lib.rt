@@ -2,7 +2,9 @@
 #![tactic(auto)]
 
 mod laws;
+mod operators;
 
 pub use laws::{
     columns_are_bounded, generated_texts_are_read, legal_runs_agree, legal_runs_can_be_read,
 };
+pub use operators::operators_are_never_refused;

@@ -88,7 +88,7 @@ gives_is (kind ∷ more) repeated (token ∷ tokens) g others other is =
 abbrev pub IsReadAs : Word → List (List ℕ) → Given → Type 0
 IsReadAs word tokens g = walk (row word).kinds (row word).repeated 2 nothing tokens ≡ Ok g
 
-read_is : (word : Word) (tokens : List (List ℕ)) (g : Given) → AreOthers (row word).kinds → is_other (row word).repeated ≡ true
+pub read_is : (word : Word) (tokens : List (List ℕ)) (g : Given) → AreOthers (row word).kinds → is_other (row word).repeated ≡ true
     → IsReadAs word tokens g → IsOf g.n g.op
 read_is word tokens g others other read =
     subst (λ (h : Given). IsOf h.n h.op) (sym (read-all (row word).kinds (row word).repeated 2 nothing g tokens read).value)
@@ -109,7 +109,7 @@ IsIndexed-of : (n : ℕ) (op : OpName) → IsOf n op → 0 < n → n ≤ MAX_DET
 IsIndexed-of n (ops.T m) is positive limited = (subst (λ k. 0 < k) (sym is) positive, subst (λ k. k ≤ MAX_DET) (sym is) limited)
 IsIndexed-of n ops.Star is positive limited = tt
 
-indexed : (g : Given) → limit_of g ≡ None → IsOf g.n g.op → IsIndexed g.op
+pub indexed : (g : Given) → limit_of g ≡ None → IsOf g.n g.op → IsIndexed g.op
 indexed g none is = let few = AreFew-from_none g none in IsIndexed-of g.n g.op is few.positive few.limited
 
 -- and then the command is within its limits
