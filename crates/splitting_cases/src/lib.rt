@@ -5,6 +5,8 @@
 #[cfg(test)]
 mod fitting;
 #[cfg(test)]
+mod hecke_polynomials;
+#[cfg(test)]
 mod matrices;
 #[cfg(test)]
 mod operators;
