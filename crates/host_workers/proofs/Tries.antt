@@ -164,16 +164,30 @@ wanting_try g s number known v line old mid new parts within goes count version 
     (plain_try g s number known v line old mid parts replies.Memory within goes count version (inr refl))
 
 -- and one that came too late
-pub stale_try : (m n known v : ℕ) (old mid new : List SplitEntry) → m ≡ n → known ≤ length old → GoesOn maker_of (n + 1) old mid → v ≡ length mid
-    → v < MAX_VERSIONS → GoesOn maker_of (m + 1) mid new × (length mid < length new) → IsStale (n + 1) known old v new
-stale_try m n known v old mid new same within goes count room (later, longer) =
+pub stale_try : (g : Ground) (m n number known v : ℕ) (line : NumberedLine) (old mid new : List SplitEntry) (parts next : Decomposition) (op : OpName)
+    (poly : List ℕ) (sizes : List ℕ) → m ≡ n → known ≤ length old → GoesOn maker_of (n + 1) old mid → v ≡ length mid → IsVersion g mid parts
+    → FinishesLine g v parts line.text (outcomes.Split op poly next sizes) → GoesOn maker_of (m + 1) mid new × (length mid < length new)
+    → IsStale g (n + 1) (number, line) known old v new
+stale_try g m n number known v line old mid new parts next op poly sizes same within goes count version finished (later, longer) =
     let less : length old ≤ length mid = prefix-length old mid goes.begins in
+    let split : IsAcceptedSplit g (length mid) parts line.text op poly next sizes =
+    accepted_split g (length mid) parts line.text op poly next sizes
+    (subst (λ k. FinishesLine g k parts line.text (outcomes.Split op poly next sizes)) count finished) in
     record {
       goes = goes_on_then maker_of (n + 1) old mid new goes (subst (λ k. GoesOn maker_of (k + 1) mid new) same later);
       learnt = omega (arith, less, count);
       longer = omega (arith, count, longer);
-      room = room;
+      room = omega (arith, split.room, count);
       no_earlier = omega (arith, within, less, count);
+      accepted = record {
+        before = mid;
+        reply = record { number = number; version = length mid; reply = replies.Version (length mid + 1) sizes };
+        after = mid ++ record { session = n + 1; command = number; op = op; poly = poly } ∷ [];
+        into = later.begins;
+        count = sym count;
+        answers = accepted_line g (n + 1) number mid parts line op poly next sizes version split;
+        accepted = tt;
+      };
     }
 
 -- ---- the flights
@@ -270,7 +284,7 @@ pub stale_after : (g : Ground) (m n : ℕ) (line : ℕ × NumberedLine) (known m
     → m ≡ n → known ≤ mid → GoesOn maker_of (n + 1) old log → o ≡ None → TriesLine g (m + 1) line mid log o reached new
     → IsStaleAfter n known old log reached new
 stale_after g m n line known mid reached old log new o same less goes is h =
-    let stale : IsStale (m + 1) mid log reached new = subst (λ x. TriesLine g (m + 1) line mid log x reached new) is h in
+    let stale : IsStale g (m + 1) line mid log reached new = subst (λ x. TriesLine g (m + 1) line mid log x reached new) is h in
     record {
       goes = goes_on_then maker_of (n + 1) old log new goes (subst (λ k. GoesOn maker_of (k + 1) log new) same stale.goes);
       no_earlier = omega (arith, less, stale.no_earlier);

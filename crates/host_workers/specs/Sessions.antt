@@ -18,9 +18,11 @@
 --                                 the same for a line that came to this: the pairs were published, but where it is want of memory
 --   FliesLine g s line old r new  what a command line with this reply line did on the flights: it asked for the columns that it demands, and
 --                                 they were published, where its reply is no want of memory
---   IsStale s known old reached new
---                                 the split of a line was stale: the session learnt the list, of fewer splits than the most (reached), and
---                                 the list went on before its commit; nothing that it gained names the session
+--   IsAcceptedAt g s line v list  at the first v splits of the list the line is answered by an accepted split
+--   IsStale g s line known old reached new
+--                                 the split of a line was stale: the session learnt the list, of fewer splits than the most (reached), at
+--                                 which the line is an accepted split, and the list went on before its commit; nothing that it gained names
+--                                 the session
 --   TriesLine g s line known old o reached new
 --                                 the reply line of a line, or none where its split was stale
 --   FliesTry g s line old o new   what this did on the flights
@@ -52,6 +54,7 @@ use Rattle.split_versions.specs.Shared.{board_of, setting_of}
 use Rattle.session_core.specs.declared.outcome.Finish.{Finish}
 use Rattle.session_core.specs.declared.outcome.Finish.TheVariants as outcomes
 use Rattle.session_core.specs.Demands.{Has, HasAll, line_demand}
+use Rattle.session_core.specs.Replies.{IsAccepted}
 use Rattle.session_core.specs.SoloRuns.{Answers}
 use Rattle.session_core.specs.Transcripts.{HoldsDemand}
 use Rattle.host_workers.specs.Workers.{pair_of, published_pairs}
@@ -91,16 +94,27 @@ pub record FliesLine (g : Ground) (s : ℕ) (line : NumberedLine) (old : List Fl
   pub flies : Flies (line_demand g 0 line.text) s old new
   pub held : HoldsDemand g (published_pairs new) line r
 
-pub record IsStale (s known : ℕ) (old : List SplitEntry) (reached : ℕ) (new : List SplitEntry) : Type 0 where
+pub record IsAcceptedAt (g : Ground) (s : ℕ) (line : ℕ × NumberedLine) (v : ℕ) (list : List SplitEntry) : Type 0 where
+  pub before : List SplitEntry
+  pub reply : ReplyLine
+  pub after : List SplitEntry
+  pub into : IsPrefix before list
+  pub count : length before ≡ v
+  pub answers : Answers g s before line reply after
+  pub accepted : IsAccepted reply.reply
+
+pub record IsStale (g : Ground) (s : ℕ) (line : ℕ × NumberedLine) (known : ℕ) (old : List SplitEntry) (reached : ℕ) (new : List SplitEntry)
+    : Type 0 where
   pub goes : GoesOn session_of s old new
   pub learnt : length old ≤ reached
   pub longer : reached < length new
   pub room : reached < MAX_VERSIONS
   pub no_earlier : known ≤ reached
+  pub accepted : IsAcceptedAt g s line reached new
 
 abbrev pub TriesLine : Ground → ℕ → ℕ × NumberedLine → ℕ → List SplitEntry → Option ReplyLine → ℕ → List SplitEntry → Type 0
 TriesLine g s line known old (Some r) reached new = AnswersLine g s line known old r reached new
-TriesLine g s line known old None reached new = IsStale s known old reached new
+TriesLine g s line known old None reached new = IsStale g s line known old reached new
 
 abbrev pub FliesTry : Ground → ℕ → NumberedLine → List FlightEvent → Option ReplyLine → List FlightEvent → Type 0
 FliesTry g s line old (Some r) new = FliesLine g s line old r new

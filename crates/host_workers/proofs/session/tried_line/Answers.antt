@@ -67,14 +67,13 @@ returns-in-Ok-false-clause-answers g c =
     let version : IsVersion c.args.space.now (view c.current.new.pass).seen c.deref.result.now =
     version_here c.args.space.now (setting_of c.args.versions.now) (view c.current.new.pass).seen c.deref.result.now c.in-Ok.splitting.value
     c.requires.splits.setting c.deref.ensures c.in-Ok.ensures.newest in
-    let split = split_of c.args.space.now (c.number.result + 1) c.args.number c.in-Ok.version c.args.line.now.text (view c.current.new.pass).seen
-    c.deref.result.now c.in-Split.next c.in-Split.op c.in-Split.poly c.in-Split.dims c.in-Ok.ensures.count version
-    (subst (FinishesLine c.args.space.now c.in-Ok.version c.deref.result.now c.args.line.now.text) c.in-Split.is c.line_finish.ensures.finishes) in
     let entry : SplitEntry = record { session = c.number.result + 1; command = c.args.number; op = c.in-Split.op; poly = c.in-Split.poly } in
-    stale_try (view c.current.new.pass).number (view c.args.splits.now).number c.args.known.now c.in-Ok.version (view c.args.splits.now).seen
-    (view c.current.new.pass).seen (view c.commit_split.new.splits).seen c.current.ensures.later.number c.requires.known
+    stale_try c.args.space.now (view c.current.new.pass).number (view c.args.splits.now).number c.args.number c.args.known.now c.in-Ok.version
+    c.args.line.now (view c.args.splits.now).seen (view c.current.new.pass).seen (view c.commit_split.new.splits).seen c.deref.result.now
+    c.in-Split.next c.in-Split.op c.in-Split.poly c.in-Split.dims c.current.ensures.later.number c.requires.known
     (goes_on maker_of (view c.args.splits.now).number (view c.args.splits.now).seen (view c.current.new.pass).seen c.current.ensures.none)
-    c.in-Ok.ensures.count split.0
+    c.in-Ok.ensures.count version
+    (subst (FinishesLine c.args.space.now c.in-Ok.version c.deref.result.now c.args.line.now.text) c.in-Split.is c.line_finish.ensures.finishes)
     (subst (λ b. TriesSplit ((view c.current.new.pass).number + 1) entry (view c.current.new.pass).seen b (view c.commit_split.new.splits).seen)
     c.in-Ok-false.field-0-test c.in-Ok-false.ensures.answer)
 
