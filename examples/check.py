@@ -9,6 +9,7 @@ that the free symbols are independent, and that a relation is a kept one, is not
 by the number of another that is the same sum. Prints how many certificates hold, exit status 0; or the first line of
 the transcript that fails, exit status 1."""
 
+import os
 import pathlib
 import sys
 from math import gcd
@@ -81,5 +82,11 @@ if __name__ == "__main__":
         sys.exit("usage: examples/check.py SCRIPT TRANSCRIPT")
     try:
         print("certificates that hold: %d" % check(*(pathlib.Path(name).read_text() for name in sys.argv[1:])))
-    except (ValueError, IndexError) as fault:
-        sys.exit("%s: %s" % (sys.argv[2], fault))
+        sys.stdout.flush()
+    except BrokenPipeError:
+        # What reads the output has closed it.
+        os.dup2(os.open(os.devnull, os.O_WRONLY), sys.stdout.fileno())
+    except OSError as fault:
+        sys.exit("check.py: %s: %s" % (fault.filename, fault.strerror))
+    except (ValueError, IndexError, KeyError, StopIteration) as fault:
+        sys.exit("%s: %s" % (sys.argv[2], fault or "it is no transcript"))

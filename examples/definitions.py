@@ -11,6 +11,7 @@ an operator is used: by Merel's theorem it is never other than 0, so there is no
 with the power of f(A) of which the exponent is the dimension of the whole space, which no chain of kernels or images
 outlasts."""
 
+import os
 import sys
 from functools import cache
 from math import gcd
@@ -103,6 +104,8 @@ def main():
     lines = [line.split() for line in sys.stdin.read().splitlines()]
     lines = [words for words in lines if words and not words[0].startswith("#")]
     level, p = int(lines[0][1]), int(lines[0][2])
+    if level > 300 and sys.stderr.isatty():
+        print("definitions.py: plain and slow: level 389 takes about 40 seconds", file=sys.stderr)
     units = [s for s in range(level) if gcd(s, level) == 1] or [0]
 
     def normal(u, v):
@@ -328,4 +331,12 @@ def main():
     print("columns %d\nend" % len(demanded))
 
 
-main()
+if __name__ == "__main__":
+    try:
+        main()
+        sys.stdout.flush()
+    except BrokenPipeError:
+        # What reads the output has closed it.
+        os.dup2(os.open(os.devnull, os.O_WRONLY), sys.stdout.fileno())
+    except (ValueError, IndexError, KeyError):
+        sys.exit("definitions.py: the input is no script of commands of the right form")

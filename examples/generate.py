@@ -8,6 +8,7 @@
 Draws are by the minimal standard generator of Park and Miller, x -> 16807 x modulo 2^31 - 1. The summary is the same
 by `solo` and by `serve`, and in every run, where no reply is `err memory`."""
 
+import os
 import re
 import sys
 from math import gcd
@@ -79,6 +80,16 @@ def summary(seed, told):
     ]
 
 
-number = int(sys.argv[1])
-told = [] if sys.stdin.isatty() else sys.stdin.read().split("\n")
-print("\n".join(summary(number, told) if len(told) > 1 else script(number)))
+if __name__ == "__main__":
+    if len(sys.argv) != 2 or not re.fullmatch(r"[0-9]{1,20}", sys.argv[1]):
+        sys.exit("usage: examples/generate.py NUMBER, with a transcript on standard input for its summary")
+    try:
+        number = int(sys.argv[1])
+        told = [] if sys.stdin.isatty() else sys.stdin.read().split("\n")
+        print("\n".join(summary(number, told) if len(told) > 1 else script(number)))
+        sys.stdout.flush()
+    except BrokenPipeError:
+        # What reads the output has closed it.
+        os.dup2(os.open(os.devnull, os.O_WRONLY), sys.stdout.fileno())
+    except (ValueError, IndexError, KeyError):
+        sys.exit("generate.py: the input is no transcript of the script of %s" % sys.argv[1])
